@@ -1,0 +1,148 @@
+-- The proof of each promise of specs/Promises.antt.
+use mathlib.Core.Path.{_≡_, refl}
+use mathlib.Core.Bool.{Bool, true, false, not}
+use Prim.Native.Nat.{ℕ, _*_, min}
+use native.Mathlib.Omega.{arith}
+use lib.Dec.{T, leb, le→leb}
+use lib.ListN.{length}
+use Rattle.lists.proofs.Tests.{by-test, T-true, F-false, cond-T, cond-F}
+use Rattle.lists.proofs.Counts.{count-same}
+use Rattle.model.specs.declared.System.{System}
+use Rattle.model.specs.declared.After.{After}
+use Rattle.model.specs.declared.Step.{Step}
+use Rattle.model.specs.declared.Refusal.the-variants.{NotSound}
+use Rattle.model.specs.Limits.{inLimits, mostDrain}
+use Rattle.model.specs.Fresh.{noSizes, blank, refused, freshOf}
+use Rattle.model.specs.Parts.{siteAt}
+use Rattle.model.specs.Sound.{request, reply, ofSite, messageFits, siteQueueFits, sound}
+use Rattle.model.specs.Steps.{stepOf, stepped, isDone}
+use Rattle.model.specs.Drain.{accepts, candidatesOf, quiet, drained, drainOf}
+use Rattle.promises.specs.Promises.{refuses, run, FreshSound, StepSound, RunSound, RefusedStays, RunBound, QuietMeans, QuietEmpty, Alternating, AllAnswered, MovesMost, DrainQuiet, DrainSteps, DrainFits, ChoicesMost, Roomy, RunRoomy}
+use Rattle.promises.proofs.Queues.{queue-most}
+use Rattle.promises.proofs.Sound.{Sound, opened, closed}
+use Rattle.promises.proofs.Room.{the-limits, ready, net-places}
+use Rattle.promises.proofs.Stepping.{Stepping, refusing, fenced, stalling, handling, resuming, sending, arriving, serving, returning, reaching, tooking, stepping}
+use Rattle.promises.proofs.Public.{stepped-sound, run-kept, run-sizes}
+use Rattle.promises.proofs.Kept.{kept, fresh-sound}
+use Rattle.promises.proofs.Bound.{run-bound, most-moves}
+use Rattle.promises.proofs.Quiet.{quiet-all, all-quiet, quiet-none}
+use Rattle.promises.proofs.Drain.{drained-always, drained-leaves, drained-bytes}
+use Rattle.promises.proofs.Alternate.{alternates, all-answered}
+use Rattle.promises.proofs.Choices.{choices, accepted-candidate, candidates-once}
+
+-- SOUND
+
+no-sizes : sound (blank noSizes) ≡ false
+unfolding sound inLimits
+no-sizes = refl
+
+pub fresh-is-sound : FreshSound
+unfolding freshOf
+fresh-is-sound z =
+    by-test (inLimits z)
+    (λ t. rw (T-true (inLimits z) t) (T-true (sound (blank z)) (closed (blank z) (fresh-sound z t))))
+    (λ t. rw (F-false (inLimits z) t) no-sizes)
+
+pub step-is-sound : StepSound
+step-is-sound s x t = rw (stepped-sound s (opened s t) x) (closed (stepOf s x .system) (kept s (opened s t) x))
+
+pub run-is-sound : RunSound
+run-is-sound z t xs = (closed (run z xs) (run-kept (blank z) (fresh-sound z t) xs), run-sizes (blank z) (fresh-sound z t) xs)
+
+-- a refused step leaves the state
+stays : (s : System) (x : Step) (r : After) → Stepping s x r → T (not (isDone (r .outcome))) → r .system ≡ s
+stays s x r (refusing y q) t = refl
+stays s x r (fenced i u n d k) t = refl
+stays s x r (stalling i u n d k l w) t = absurd t
+stays s x r (handling i u n d k a q b) t = absurd t
+stays s x r (resuming i l k a q b) t = absurd t
+stays s x r (sending i l k) t = absurd t
+stays s x r (arriving p l) t = absurd t
+stays s x r (serving l) t = absurd t
+stays s x r (returning l) t = absurd t
+stays s x r (reaching p l) t = absurd t
+stays s x r (tooking i l k) t = absurd t
+
+pub refused-stays : RefusedStays
+unfolding stepped
+refused-stays s x =
+    by-test (sound s)
+    (λ u. rw (cond-T (sound s) (stepOf s x) (refused NotSound s) u) (stays s x (stepOf s x) (stepping s (opened s u) x)))
+    (λ u. rw (cond-F (sound s) (stepOf s x) (refused NotSound s) u) (λ t. refl))
+
+-- THE BOUND
+
+pub run-bounded : RunBound
+run-bounded = run-bound
+
+-- QUIET
+
+pub quiet-means : QuietMeans
+quiet-means s t =
+    let h : Sound s = opened s t in
+    (λ q x m. rw (stepped-sound s h x) (quiet-all s h q x m), λ f. all-quiet s h (λ x m. rw (stepped-sound s h x) at (f x m)))
+
+pub quiet-empty : QuietEmpty
+quiet-empty s t q = quiet-none s (opened s t) q
+
+pub alternating : Alternating
+alternating = alternates
+
+pub all-are-answered : AllAnswered
+all-are-answered = all-answered
+
+-- THE DRAIN
+
+pub moves-most : MovesMost
+moves-most s t xs m = most-moves s (opened s t) xs m
+
+pub drain-steps : DrainSteps
+drain-steps s t b = (drained-leaves b s (opened s t) .taken, drained-leaves b s (opened s t) .leads)
+
+pub drain-quiet : DrainQuiet
+unfolding drainOf
+drain-quiet s t b l buf k =
+    rw (T-true (sound s) t, T-true (leb (2 * min b mostDrain) (length buf)) (le→leb (2 * min b mostDrain) (length buf) (omega arith)))
+    (T-true (quiet (drained b s .state)) (drained-always b s (opened s t) l))
+
+pub drain-fits : DrainFits
+drain-fits s t b = drained-bytes b s (opened s t)
+
+-- THE CHOICES
+
+-- what a sound state does not refuse it accepts
+accepts-is : (s : System) → Sound s → (x : Step) → not (refuses s x) ≡ accepts s x
+accepts-is s h x = rw (stepped-sound s h x) (twice (accepts s x))
+  where
+    twice : (b : Bool) → not (not b) ≡ b
+    twice true = refl
+    twice false = refl
+
+pub choices-most : ChoicesMost
+choices-most s t =
+    let h : Sound s = opened s t in
+    record {
+      listed = λ x m a. accepted-candidate s h x m (rw (accepts-is s h x) at a);
+      once = λ x. candidates-once (s .sizes .sites) (s .up .count) (s .down .count) x;
+      most = rw (count-same (λ x. not (refuses s x)) (accepts s) (candidatesOf s) (accepts-is s h)) (choices s h);
+    }
+
+-- THE ROOM
+
+roomy : (s : System) → Sound s → Roomy s
+unfolding siteQueueFits
+roomy s h =
+    let most : ℕ = s .sizes .pend * s .sizes .sites in
+    record {
+      outgoing = λ i l. queue-most 5 (s .sizes .pend) (ofSite (s .sizes) request i) (siteAt s i .outgoing .count) (siteAt s i .outgoing .items) (ready s h i l .out);
+      incoming = λ i l. queue-most 5 (s .sizes .pend) (ofSite (s .sizes) reply i) (siteAt s i .incoming .count) (siteAt s i .incoming .items) (ready s h i l .inc);
+      up = queue-most 20 most (messageFits (s .sizes) request) (s .up .count) (s .up .items) (h .up);
+      arrived = queue-most 20 most (messageFits (s .sizes) request) (s .arrived .count) (s .arrived .items) (h .arrived);
+      served = queue-most 20 most (messageFits (s .sizes) reply) (s .served .count) (s .served .items) (h .served);
+      down = queue-most 20 most (messageFits (s .sizes) reply) (s .down .count) (s .down .items) (h .down);
+      five = the-limits s h .pend-most;
+      twenty = net-places s h;
+    }
+
+pub run-roomy : RunRoomy
+run-roomy z t xs = roomy (run z xs) (run-kept (blank z) (fresh-sound z t) xs)

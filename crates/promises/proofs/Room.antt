@@ -1,0 +1,163 @@
+-- How many messages there are: as many as pend entries, so that there is room for each wherever it goes.
+use mathlib.Core.Path.{_≡_, sym, _∙_}
+use mathlib.Core.List.{List, [], _∷_}
+use mathlib.Core.Bool.{Bool, true, false, not, _&&_}
+use Prim.Native.Nat.{ℕ, _+_, _*_, _≤_, _<_}
+use native.Mathlib.Nat.{mul-comm, mul-le-mul}
+use native.Mathlib.Omega.{arith}
+use lib.Dec.{T, ltb, eqb, ltb→lt, nltb→le, eqb-refl}
+use Rattle.lists.specs.Places.{ind, weigh, tally, sumBelow, count, each}
+use Rattle.lists.proofs.Tests.{and-l, and-r, both, by-test, ind-T, ind-F, of-ne}
+use Rattle.lists.proofs.Places.{array-fits, fits-any, tally-all}
+use Rattle.lists.proofs.Below.{sum-put, sum-at, sum-same, sum-both, sum-most}
+use Rattle.model.specs.declared.Message.{Message}
+use Rattle.model.specs.declared.Queue.{Queue}
+use Rattle.model.specs.declared.System.{System}
+use Rattle.model.specs.Parts.{Site, siteAt}
+use Rattle.model.specs.Sound.{request, reply, ofSite, messageFits, queueFits, siteQueueFits, freeMessage, freeEntry, entryFits, underWay}
+use Rattle.promises.proofs.Balance.{inSite, total, isAt, asksAt, count-total}
+use Rattle.promises.proofs.Queues.{NetFits, queue-fits}
+use Rattle.promises.proofs.Sound.{Limits, limits, Sound, Ready, Vacant, ready-at, vacant-at, all-sited}
+
+-- any line, on any trip
+abbrev pub anything : ℕ → ℕ → Bool
+anything L c = true
+
+-- MESSAGES BY SITE
+
+one-below : (n k : ℕ) → k < n → sumBelow n (λ i. ind (eqb k i && true)) ≡ 1
+one-below n k l =
+    omega (
+      arith,
+      sum-put n (λ i. 0) (λ i. ind (eqb k i && true)) k l (λ j h. ind-F (eqb k j && true) (no j h)),
+      zeros n,
+      ind-T (eqb k k && true) (both (eqb k k) _ (eqb-refl k) tt),
+    )
+  where
+    no : (j : ℕ) → (j ≡ k → ⊥) → T (not (eqb k j && true))
+    no j h = of-and (eqb k j) (of-ne k j (λ e. h (sym e)))
+      where
+        of-and : (b : Bool) → T (not b) → T (not (b && true))
+        of-and true t = t
+        of-and false t = tt
+
+    zeros : (n : ℕ) → sumBelow n (λ i. 0) ≡ 0
+    zeros n = omega (arith, sum-most n 0 (λ i. 0) (λ i l. omega arith))
+
+by-site : (n : ℕ) (ms : List Message) → T (each (λ m. ltb (m .site) n) ms) → count (λ m. true) ms ≡ sumBelow n (λ i. count (isAt i anything) ms)
+unfolding count each
+by-site n [] t = omega (arith, sum-most n 0 (λ i. 0) (λ i l. omega arith))
+by-site n (m ∷ ms) t =
+    omega (
+      arith,
+      by-site n ms (and-r (ltb (m .site) n) _ t),
+      one-below n (m .site) (ltb→lt (m .site) n (and-l (ltb (m .site) n) _ t)),
+      sum-both n (λ i. ind (isAt i anything m)) (λ i. count (isAt i anything) ms),
+    )
+
+-- COUNTS
+
+abbrev pub queued : Site → ℕ
+queued x = x .outgoing .count + x .incoming .count
+
+-- how many messages are under way, in all
+unfoldable pub messageCount : System → ℕ
+messageCount s = sumBelow 4 (λ i. queued (siteAt s i)) + s .up .count + s .arrived .count + s .served .count + s .down .count
+
+all-counted : (f ok : Message → Bool) → ((m : Message) → T (ok m) → T (f m)) → (n : ℕ) (xs : List Message) (places most : ℕ) →
+    T (queueFits places most ok n xs) → tally f n xs ≡ n
+all-counted f ok h n xs places most t = tally-all f n xs (fits-any ok f freeMessage h n xs (queue-fits places most ok n xs t))
+
+none-counted : (f : Message → Bool) (n : ℕ) (xs : List Message) → n ≡ 0 → tally f n xs ≡ n
+unfolding weigh
+none-counted f n xs e = rw e
+
+module _ (s : System) (h : Sound s) where
+  pub the-limits : Limits (s .sizes)
+  the-limits = limits (s .sizes) (h .sizes)
+
+  pub ready : (i : ℕ) → i < s .sizes .sites → Ready (s .sizes) i (siteAt s i)
+  ready i l = ready-at s the-limits (h .sites) i l
+
+  pub vacant : (i : ℕ) → i < 4 → s .sizes .sites ≤ i → Vacant (siteAt s i)
+  vacant i l k = vacant-at s the-limits (h .sites) i l k
+
+  pub below-four : (i : ℕ) → i < s .sizes .sites → i < 4
+  below-four i l = omega (arith, l, the-limits .sites-most)
+
+  -- all messages of a site's own queues are of that site
+  pub own-counted : (i : ℕ) → i < s .sizes .sites → inSite (isAt i anything) (siteAt s i) ≡ queued (siteAt s i)
+  unfolding inSite siteQueueFits
+  own-counted i l =
+      omega (
+        arith,
+        all-counted (isAt i anything) (ofSite (s .sizes) request i) (mine request) (siteAt s i .outgoing .count) (siteAt s i .outgoing .items) 5 (s .sizes .pend) (ready i l .out),
+        all-counted (isAt i anything) (ofSite (s .sizes) reply i) (mine reply) (siteAt s i .incoming .count) (siteAt s i .incoming .items) 5 (s .sizes .pend) (ready i l .inc),
+      )
+    where
+      mine : (side : ℕ → Bool) (m : Message) → T (ofSite (s .sizes) side i m) → T (isAt i anything m)
+      mine side m t = both (eqb (m .site) i) _ (and-r (messageFits (s .sizes) side m) _ t) tt
+
+  -- all messages of a site: as many as its entries
+  pub of-site : (i : ℕ) → i < s .sizes .sites → total (isAt i anything) s ≡ siteAt s i .pends
+  of-site i l =
+      h .balance i l anything ∙
+      tally-all (asksAt anything) (siteAt s i .pends) (siteAt s i .entries)
+      (fits-any (entryFits (s .sizes)) (asksAt anything) freeEntry (λ e t. tt) (siteAt s i .pends) (siteAt s i .entries)
+      (array-fits 5 (entryFits (s .sizes)) freeEntry (siteAt s i .pends) (siteAt s i .entries) (ready i l .own .entries)))
+
+  -- the messages of a site's queues, with those of the site elsewhere, are no more than its entries
+  pub site-room : (i : ℕ) → i < s .sizes .sites → queued (siteAt s i) + tally (isAt i anything) (s .down .count) (s .down .items) ≤ siteAt s i .pends
+  unfolding total
+  site-room i l = omega (arith, of-site i l, own-counted i l, sum-at 4 (λ j. inSite (isAt i anything) (siteAt s j)) i (below-four i l))
+
+  site-counted : (i : ℕ) → i < 4 → inSite (λ m. true) (siteAt s i) ≡ queued (siteAt s i)
+  unfolding inSite siteQueueFits
+  site-counted i l =
+      by-test (ltb i (s .sizes .sites))
+      (λ u. let k : i < s .sizes .sites = ltb→lt i (s .sizes .sites) u in
+      omega (
+        arith,
+        all-counted (λ m. true) (ofSite (s .sizes) request i) (λ m t. tt) (siteAt s i .outgoing .count) (siteAt s i .outgoing .items) 5 (s .sizes .pend) (ready i k .out),
+        all-counted (λ m. true) (ofSite (s .sizes) reply i) (λ m t. tt) (siteAt s i .incoming .count) (siteAt s i .incoming .items) 5 (s .sizes .pend) (ready i k .inc),
+      ))
+      (λ u. let v = vacant i l (nltb→le i (s .sizes .sites) u) in
+      omega (
+        arith,
+        none-counted (λ m. true) (siteAt s i .outgoing .count) (siteAt s i .outgoing .items) (v .outgoing),
+        none-counted (λ m. true) (siteAt s i .incoming .count) (siteAt s i .incoming .items) (v .incoming),
+      ))
+
+  net-counted : (side : ℕ → Bool) (q : Queue) → NetFits (s .sizes) side q → tally (λ m. true) (q .count) (q .items) ≡ q .count
+  net-counted side q t = all-counted (λ m. true) (messageFits (s .sizes) side) (λ m u. tt) (q .count) (q .items) 20 (s .sizes .pend * s .sizes .sites) t
+
+  all-total : total (λ m. true) s ≡ messageCount s
+  unfolding total messageCount
+  all-total =
+      omega (
+        arith,
+        sum-same 4 (λ i. queued (siteAt s i)) (λ i. inSite (λ m. true) (siteAt s i)) site-counted,
+        net-counted request (s .up) (h .up),
+        net-counted request (s .arrived) (h .arrived),
+        net-counted reply (s .served) (h .served),
+        net-counted reply (s .down) (h .down),
+      )
+
+  -- as many messages as entries
+  pub count-is : messageCount s ≡ sumBelow (s .sizes .sites) (λ i. siteAt s i .pends)
+  count-is =
+      sym all-total ∙ sym (count-total (λ m. true) s) ∙
+      by-site (s .sizes .sites) (underWay s) (all-sited s the-limits (h .sites) (h .up) (h .arrived) (h .served) (h .down)) ∙
+      sum-same (s .sizes .sites) (λ i. siteAt s i .pends) (λ i. count (isAt i anything) (underWay s)) (λ i l. count-total (isAt i anything) s ∙ of-site i l)
+
+  pub count-most : messageCount s ≤ s .sizes .pend * s .sizes .sites
+  count-most =
+      omega (
+        arith,
+        count-is,
+        sum-most (s .sizes .sites) (s .sizes .pend) (λ i. siteAt s i .pends) (λ i l. ready i l .own .n-most),
+        mul-comm (s .sizes .sites) (s .sizes .pend),
+      )
+
+  pub net-places : s .sizes .pend * s .sizes .sites ≤ 20
+  net-places = mul-le-mul (the-limits .pend-most) (the-limits .sites-most)

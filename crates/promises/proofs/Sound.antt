@@ -1,0 +1,267 @@
+-- Soundness as a record of facts, with the count form in place of the document's words on messages; and what follows from it.
+use mathlib.Core.Path.{_≡_}
+use mathlib.Core.List.{List}
+use mathlib.Core.Bool.{Bool}
+use Prim.Native.Nat.{ℕ, _*_, _≤_, _<_}
+use native.Mathlib.Omega.{arith}
+use lib.Dec.{T, leb, ltb, eqb, leb→le, le→leb, ltb→lt, lt→ltb, eqb→eq, nltb→le}
+use lib.ListN.{length, take}
+use Rattle.lists.specs.Places.{array, eachOf, noneOf, unlike, allBelow, count, each, allOf}
+use Rattle.lists.proofs.Tests.{and-l, and-r, both, by-test, cond-T, cond-F, not-T}
+use Rattle.lists.proofs.Places.{array-length, array-most}
+use Rattle.lists.proofs.Below.{below-at, below-all}
+use Rattle.lists.proofs.Counts.{each-append, each-allOf, each-take, each-map}
+use Rattle.model.specs.declared.Sizes.{Sizes}
+use Rattle.model.specs.declared.Message.{Message}
+use Rattle.model.specs.declared.Entry.{Entry}
+use Rattle.model.specs.declared.Waiting.{Waiting}
+use Rattle.model.specs.declared.CacheSet.{CacheSet}
+use Rattle.model.specs.declared.Queue.{Queue}
+use Rattle.model.specs.declared.System.{System}
+use Rattle.model.specs.Limits.{inLimits}
+use Rattle.model.specs.Parts.{Site, siteAt}
+use Rattle.model.specs.Sound.{request, reply, ofSite, freeMessage, freeEntry, freeWaiting, messageFits, queueFits, siteQueueFits, waitingFits, stallsFit, entryFits, pendsFit, memoryFits, cacheFits, cachedApart, sameLine, sameTag, samePendTag, pendsUnder, tagsDiffer, ownFits, siteFits, freeSite, siteOk, fourSites, sitesFit, siteMessages, underWay, messagesFit, sound}
+use Rattle.model.specs.Sets.{cached}
+use Rattle.promises.proofs.Sites.{Four, four-open, four-close}
+use Rattle.promises.proofs.Balance.{Balance, balance-open, balance-close}
+use Rattle.promises.proofs.Queues.{NetFits, queue-fits}
+
+-- THE LIMITS
+
+pub record Limits (z : Sizes) : Type 0 where
+  pub sites-most : z .sites ≤ 4
+  pub sites-some : 1 ≤ z .sites
+  pub words-most : z .words ≤ 4
+  pub words-some : 1 ≤ z .words
+  pub lines-most : z .lines ≤ 16
+  pub sets-most : z .sets ≤ 8
+  pub sets-some : 1 ≤ z .sets
+  pub pend-most : z .pend ≤ 5
+  pub pend-some : 1 ≤ z .pend
+  pub stall-most : z .stall ≤ 8
+
+pub limits : (z : Sizes) → T (inLimits z) → Limits z
+unfolding inLimits
+limits z t = record {
+  sites-most = leb→le (z .sites) 4 (search (and-l, and-r) depth 10);
+  sites-some = leb→le 1 (z .sites) (search (and-l, and-r) depth 10);
+  words-most = leb→le (z .words) 4 (search (and-l, and-r) depth 10);
+  words-some = leb→le 1 (z .words) (search (and-l, and-r) depth 10);
+  lines-most = leb→le (z .lines) 16 (search (and-l, and-r) depth 10);
+  sets-most = leb→le (z .sets) 8 (search (and-l, and-r) depth 10);
+  sets-some = leb→le 1 (z .sets) (search (and-l, and-r) depth 10);
+  pend-most = leb→le (z .pend) 5 (search (and-l, and-r) depth 10);
+  pend-some = leb→le 1 (z .pend) (search (and-l, and-r) depth 10);
+  stall-most = leb→le (z .stall) 8 (search (and-l, and-r) depth 10);
+}
+
+-- SOUND
+
+pub record Sound (s : System) : Type 0 where
+  pub sizes : T (inLimits (s .sizes))
+  pub memory : T (memoryFits (s .sizes) (s .memory))
+  pub four : Four s
+  pub sites : (i : ℕ) → i < 4 → T (siteOk (s .sizes) i (siteAt s i))
+  pub up : NetFits (s .sizes) request (s .up)
+  pub arrived : NetFits (s .sizes) request (s .arrived)
+  pub served : NetFits (s .sizes) reply (s .served)
+  pub down : NetFits (s .sizes) reply (s .down)
+  pub balance : Balance s
+
+-- WHAT A SITE HOLDS BESIDE ITS QUEUES
+
+pub record Own (z : Sizes) (c : List CacheSet) (n : ℕ) (es : List Entry) (k : ℕ) (ws : List Waiting) : Type 0 where
+  pub cache : T (cacheFits z c)
+  pub n-most : n ≤ z .pend
+  pub entries : T (array 5 (entryFits z) freeEntry n es)
+  pub k-most : k ≤ z .stall
+  pub waiting : T (array 8 (waitingFits z) freeWaiting k ws)
+  pub absent : T (noneOf (λ (e : Entry). cached z c (e .line)) n es)
+  pub lines : T (unlike sameLine n es)
+  pub w-tags : T (unlike sameTag k ws)
+  pub e-tags : T (unlike samePendTag n es)
+  pub apart : T (eachOf (λ (w : Waiting). noneOf (pendsUnder (w .tag)) n es) k ws)
+
+module _ (z : Sizes) (c : List CacheSet) (n : ℕ) (es : List Entry) (k : ℕ) (ws : List Waiting) where
+  pub own-open : T (ownFits z c n es k ws) → Own z c n es k ws
+  unfolding ownFits pendsFit stallsFit cachedApart tagsDiffer
+  own-open t = record {
+    cache = search (and-l, and-r) depth 12;
+    n-most = leb→le n (z .pend) (search (and-l, and-r) depth 12);
+    entries = search (and-l, and-r) depth 12;
+    k-most = leb→le k (z .stall) (search (and-l, and-r) depth 12);
+    waiting = search (and-l, and-r) depth 12;
+    absent = search (and-l, and-r) depth 12;
+    lines = search (and-l, and-r) depth 12;
+    w-tags = search (and-l, and-r) depth 12;
+    e-tags = search (and-l, and-r) depth 12;
+    apart = search (and-l, and-r) depth 12;
+  }
+
+  pub own-close : Own z c n es k ws → T (ownFits z c n es k ws)
+  unfolding ownFits pendsFit stallsFit cachedApart tagsDiffer
+  own-close o =
+      let a : T (leb n (z .pend)) = le→leb n (z .pend) (o .n-most) in
+      let b : T (leb k (z .stall)) = le→leb k (z .stall) (o .k-most) in
+      search both depth 12
+
+-- A SITE IN USE
+
+pub record Ready (z : Sizes) (i : ℕ) (x : Site) : Type 0 where
+  pub limits : Limits z
+  pub sited : i < z .sites
+  pub own : Own z (x .cache) (x .pends) (x .entries) (x .stalls) (x .waiting)
+  pub out : T (siteQueueFits z request i (x .outgoing))
+  pub inc : T (siteQueueFits z reply i (x .incoming))
+
+pub ready-open : (z : Sizes) (i : ℕ) (x : Site) → Limits z → i < z .sites → T (siteFits z i x) → Ready z i x
+unfolding siteFits
+ready-open z i x m l t = record {
+  limits = m;
+  sited = l;
+  own = own-open z (x .cache) (x .pends) (x .entries) (x .stalls) (x .waiting) (search (and-l, and-r));
+  out = search (and-l, and-r);
+  inc = search (and-l, and-r);
+}
+
+pub ready-close : (z : Sizes) (i : ℕ) (x : Site) → Ready z i x → T (siteFits z i x)
+unfolding siteFits
+ready-close z i x r =
+    let t = own-close z (x .cache) (x .pends) (x .entries) (x .stalls) (x .waiting) (r .own) in
+    let u = r .out in
+    let v = r .inc in
+    search both
+
+module _ (z : Sizes) (i : ℕ) (x : Site) (r : Ready z i x) where
+  pub ready-pends : x .pends ≤ length (x .entries)
+  ready-pends = array-most 5 (entryFits z) freeEntry (x .pends) (x .entries) (r .own .entries)
+
+  pub ready-stalls : x .stalls ≤ length (x .waiting)
+  ready-stalls = array-most 8 (waitingFits z) freeWaiting (x .stalls) (x .waiting) (r .own .waiting)
+
+  pub pends-room : x .pends < z .pend → x .pends < length (x .entries)
+  pends-room h = omega (arith, h, r .limits .pend-most, array-length 5 (entryFits z) freeEntry (x .pends) (x .entries) (r .own .entries))
+
+  pub stalls-room : x .stalls < z .stall → x .stalls < length (x .waiting)
+  stalls-room h = omega (arith, h, r .limits .stall-most, array-length 8 (waitingFits z) freeWaiting (x .stalls) (x .waiting) (r .own .waiting))
+
+-- A SITE PAST THE SIZES
+
+pub record Vacant (x : Site) : Type 0 where
+  pub pends : x .pends ≡ 0
+  pub stalls : x .stalls ≡ 0
+  pub outgoing : x .outgoing .count ≡ 0
+  pub incoming : x .incoming .count ≡ 0
+
+vacant : (x : Site) → T (freeSite x) → Vacant x
+unfolding freeSite
+vacant x t =
+    let a : T (eqb (x .pends) 0) = search (and-l, and-r) depth 12 in
+    let b : T (eqb (x .stalls) 0) = search (and-l, and-r) depth 12 in
+    let c : T (eqb (x .outgoing .count) 0) = search (and-l, and-r) depth 12 in
+    let d : T (eqb (x .incoming .count) 0) = search (and-l, and-r) depth 12 in
+    record {
+      pends = eqb→eq (x .pends) 0 a;
+      stalls = eqb→eq (x .stalls) 0 b;
+      outgoing = eqb→eq (x .outgoing .count) 0 c;
+      incoming = eqb→eq (x .incoming .count) 0 d;
+    }
+
+-- EACH SITE IS ONE OR THE OTHER
+
+module _ (s : System) (m : Limits (s .sizes)) (ok : (i : ℕ) → i < 4 → T (siteOk (s .sizes) i (siteAt s i))) where
+  pub ready-at : (i : ℕ) → i < s .sizes .sites → Ready (s .sizes) i (siteAt s i)
+  ready-at i l = ready-open (s .sizes) i (siteAt s i) m l (used i l (ok i (omega (arith, m .sites-most))))
+    where
+      used : (i : ℕ) → i < s .sizes .sites → T (siteOk (s .sizes) i (siteAt s i)) → T (siteFits (s .sizes) i (siteAt s i))
+      used i l t = rw (cond-T (ltb i (s .sizes .sites)) (siteFits (s .sizes) i (siteAt s i)) (freeSite (siteAt s i)) (lt→ltb i (s .sizes .sites) l)) at t
+
+  -- a site past the sizes is vacant
+  pub vacant-at : (i : ℕ) → i < 4 → s .sizes .sites ≤ i → Vacant (siteAt s i)
+  vacant-at i l h =
+      vacant (siteAt s i)
+      (rw (cond-F (ltb i (s .sizes .sites)) (siteFits (s .sizes) i (siteAt s i)) (freeSite (siteAt s i))
+      (not-T (ltb i (s .sizes .sites)) (λ u. omega (arith, ltb→lt i (s .sizes .sites) u)))) at (ok i l))
+
+-- EACH MESSAGE UNDER WAY IS OF A SITE OF THE SYSTEM
+
+module _ (s : System) (m : Limits (s .sizes)) (ok : (i : ℕ) → i < 4 → T (siteOk (s .sizes) i (siteAt s i))) where
+  abbrev Sited : Message → Bool
+  Sited y = ltb (y .site) (s .sizes .sites)
+
+  fits-sited : (side : ℕ → Bool) (y : Message) → T (messageFits (s .sizes) side y) → T (Sited y)
+  unfolding messageFits
+  fits-sited side y t = search (and-l, and-r)
+
+  net-sited : (side : ℕ → Bool) (q : Queue) → NetFits (s .sizes) side q → T (each Sited (take (q .count) (q .items)))
+  net-sited side q t =
+      each-map (messageFits (s .sizes) side) Sited (fits-sited side) (take (q .count) (q .items))
+      (each-take (messageFits (s .sizes) side) freeMessage (q .count) (q .items)
+      (queue-fits 20 (s .sizes .pend * s .sizes .sites) (messageFits (s .sizes) side) (q .count) (q .items) t))
+
+  none-sited : (n : ℕ) (ys : List Message) → n ≡ 0 → T (each Sited (take n ys))
+  unfolding each
+  none-sited n ys e = rw e tt
+
+  own-sited : (i : ℕ) (l : i < s .sizes .sites) (side : ℕ → Bool) (n : ℕ) (ys : List Message) → T (queueFits 5 (s .sizes .pend) (ofSite (s .sizes) side i) n ys) → T (each Sited (take n ys))
+  own-sited i l side n ys t =
+      each-map (ofSite (s .sizes) side i) Sited (λ y u. fits-sited side y (and-l (messageFits (s .sizes) side y) _ u)) (take n ys)
+      (each-take (ofSite (s .sizes) side i) freeMessage n ys (queue-fits 5 (s .sizes .pend) (ofSite (s .sizes) side i) n ys t))
+
+  site-sited : (i : ℕ) → i < 4 → T (each Sited (siteMessages (siteAt s i)))
+  unfolding siteQueueFits
+  site-sited i l =
+      by-test (ltb i (s .sizes .sites))
+      (λ u. let k : i < s .sizes .sites = ltb→lt i (s .sizes .sites) u in
+      let r : Ready (s .sizes) i (siteAt s i) = ready-at s m ok i k in
+      each-append Sited (take (siteAt s i .outgoing .count) (siteAt s i .outgoing .items)) (take (siteAt s i .incoming .count) (siteAt s i .incoming .items))
+      (own-sited i k request (siteAt s i .outgoing .count) (siteAt s i .outgoing .items) (r .out))
+      (own-sited i k reply (siteAt s i .incoming .count) (siteAt s i .incoming .items) (r .inc)))
+      (λ u. let v = vacant-at s m ok i l (nltb→le i (s .sizes .sites) u) in
+      each-append Sited (take (siteAt s i .outgoing .count) (siteAt s i .outgoing .items)) (take (siteAt s i .incoming .count) (siteAt s i .incoming .items))
+      (none-sited (siteAt s i .outgoing .count) (siteAt s i .outgoing .items) (v .outgoing))
+      (none-sited (siteAt s i .incoming .count) (siteAt s i .incoming .items) (v .incoming)))
+
+  pub all-sited : NetFits (s .sizes) request (s .up) → NetFits (s .sizes) request (s .arrived) → NetFits (s .sizes) reply (s .served) → NetFits (s .sizes) reply (s .down) →
+      T (each Sited (underWay s))
+  unfolding underWay
+  all-sited u a v d =
+      each-append Sited (allOf 4 (λ i. siteMessages (siteAt s i))) _ (each-allOf Sited 4 (λ i. siteMessages (siteAt s i)) site-sited)
+      (each-append Sited (take (s .up .count) (s .up .items)) _ (net-sited request (s .up) u)
+      (each-append Sited (take (s .arrived .count) (s .arrived .items)) _ (net-sited request (s .arrived) a)
+      (each-append Sited (take (s .served .count) (s .served .items)) _ (net-sited reply (s .served) v) (net-sited reply (s .down) d))))
+
+-- OPENED AND CLOSED
+
+pub opened : (s : System) → T (sound s) → Sound s
+unfolding sound sitesFit
+opened s t =
+    let z : T (inLimits (s .sizes)) = search (and-l, and-r) depth 12 in
+    let f : T (fourSites s) = search (and-l, and-r) depth 12 in
+    let b : T (allBelow 4 (λ i. siteOk (s .sizes) i (siteAt s i))) = search (and-l, and-r) depth 12 in
+    let ok : (i : ℕ) → i < 4 → T (siteOk (s .sizes) i (siteAt s i)) = below-at 4 (λ i. siteOk (s .sizes) i (siteAt s i)) b in
+    let w : T (messagesFit s (underWay s)) = search (and-l, and-r) depth 12 in
+    record {
+      sizes = z;
+      memory = search (and-l, and-r) depth 12;
+      four = four-open s f;
+      sites = ok;
+      up = search (and-l, and-r) depth 12;
+      arrived = search (and-l, and-r) depth 12;
+      served = search (and-l, and-r) depth 12;
+      down = search (and-l, and-r) depth 12;
+      balance =
+          balance-open s (λ i l. ready-pends (s .sizes) i (siteAt s i) (ready-at s (limits (s .sizes) z) ok i l))
+          (λ i l. ready-at s (limits (s .sizes) z) ok i l .own .lines) w;
+    }
+
+pub closed : (s : System) → Sound s → T (sound s)
+unfolding sound sitesFit
+closed s h =
+    let f : T (fourSites s) = four-close s (h .four) in
+    let b : T (allBelow 4 (λ i. siteOk (s .sizes) i (siteAt s i))) = below-all 4 (λ i. siteOk (s .sizes) i (siteAt s i)) (h .sites) in
+    let m : Limits (s .sizes) = limits (s .sizes) (h .sizes) in
+    let w : T (messagesFit s (underWay s)) =
+    balance-close s (λ i l. ready-pends (s .sizes) i (siteAt s i) (ready-at s m (h .sites) i l)) (λ i l. ready-at s m (h .sites) i l .own .lines)
+    (all-sited s m (h .sites) (h .up) (h .arrived) (h .served) (h .down)) (h .balance) in
+    search both depth 12

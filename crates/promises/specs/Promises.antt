@@ -1,0 +1,125 @@
+-- What is promised: demands 1 to 3 of document 01 over the definitions. Each statement's proof stands in proofs/Demands.antt.
+use mathlib.Core.Path.{_≡_}
+use mathlib.Core.Logic.{_↔_}
+use mathlib.Core.List.{List, [], List·Memᴰ}
+use mathlib.Core.Bool.{Bool, true, not}
+use Prim.Native.Nat.{ℕ, _+_, _*_, _≤_, _<_, min}
+use lib.Dec.{T}
+use lib.ListN.{length}
+use Rattle.lists.specs.Places.{count, each}
+use Rattle.model.specs.declared.Sizes.{Sizes}
+use Rattle.model.specs.declared.System.{System}
+use Rattle.model.specs.declared.Step.{Step}
+use Rattle.model.specs.Limits.{mayBeFresh, mostDrain}
+use Rattle.model.specs.Fresh.{freshOf, blank}
+use Rattle.model.specs.Parts.{siteAt}
+use Rattle.model.specs.Sound.{sound, underWay}
+use Rattle.model.specs.Steps.{stepped, isDone}
+use Rattle.model.specs.Record.{stepsBytes}
+use Rattle.model.specs.Drain.{candidatesOf, quiet, drained, drainOf}
+use Rattle.promises.specs.Runs.{afterRun, accepted, isMove, issuesTrip, issuesReconcile, sameMove, events, free, alternate, isIssued, isAnswered}
+
+-- a step that the state refuses
+abbrev pub refuses : System → Step → Bool
+refuses s x = not (isDone (stepped s x .outcome))
+
+-- a fresh system of sizes z, which is what `freshOf z` gives where it does not refuse them, after the steps
+abbrev pub run : Sizes → List Step → System
+run z xs = afterRun (blank z) xs
+
+-- SOUND
+
+-- A fresh system is sound; the state of all 0 that comes back with 12 is not.
+abbrev pub FreshSound : Type 0
+FreshSound = (z : Sizes) → sound (freshOf z .system) ≡ mayBeFresh z
+
+-- From a sound state every step leaves a sound state.
+abbrev pub StepSound : Type 0
+StepSound = (s : System) (x : Step) → T (sound s) → T (sound (stepped s x .system))
+
+-- Every state reached from fresh is sound, and has the sizes that it was made with.
+abbrev pub RunSound : Type 0
+RunSound = (z : Sizes) → T (mayBeFresh z) → (xs : List Step) → T (sound (run z xs)) × (run z xs .sizes ≡ z)
+
+-- From any state, sound or not, a refused step leaves the state.
+abbrev pub RefusedStays : Type 0
+RefusedStays = (s : System) (x : Step) → T (refuses s x) → stepped s x .system ≡ s
+
+-- THE BOUND
+
+-- With k the accepted Loadl, Storel and Commit instructions and r the Reconciles, the accepted steps other than issues number at most 13k + 7r.
+abbrev pub RunBound : Type 0
+RunBound =
+    (z : Sizes) → T (mayBeFresh z) → (xs : List Step) →
+    accepted isMove (blank z) xs ≤ 13 * accepted issuesTrip (blank z) xs + 7 * accepted issuesReconcile (blank z) xs
+
+-- QUIET
+
+-- Quiet is: every step but an issue refused, at all sites and all positions.
+abbrev pub QuietMeans : Type 0
+QuietMeans = (s : System) → T (sound s) → T (quiet s) ↔ ((x : Step) → T (isMove x) → T (refuses s x))
+
+-- Where every step except an issue would be refused, no message is left anywhere.
+abbrev pub QuietEmpty : Type 0
+QuietEmpty = (s : System) → T (sound s) → T (quiet s) → underWay s ≡ []
+
+-- At each site and under each tag accepted instructions and answers alternate, an instruction first, so that the n-th answer is the n-th
+-- instruction's; a Loadl's answer has a value, any other an acknowledgement.
+abbrev pub Alternating : Type 0
+Alternating = (z : Sizes) → T (mayBeFresh z) → (xs : List Step) (i t : ℕ) → T (alternate free (events i t (blank z) xs))
+
+-- Where the run ends quiet, each accepted instruction, fences included, has been answered exactly once, at its own site and under its own tag.
+abbrev pub AllAnswered : Type 0
+AllAnswered =
+    (z : Sizes) → T (mayBeFresh z) → (xs : List Step) → T (quiet (run z xs)) → (i t : ℕ) →
+    count isIssued (events i t (blank z) xs) ≡ count isAnswered (events i t (blank z) xs)
+
+-- THE DRAIN
+
+-- From every sound state at most 656 steps other than issues are accepted in a row.
+abbrev pub MovesMost : Type 0
+MovesMost = (s : System) → T (sound s) → (xs : List Step) → T (each isMove xs) → accepted isMove s xs ≤ mostDrain
+
+-- A budget of 656 or more always ends quiet.
+abbrev pub DrainQuiet : Type 0
+DrainQuiet =
+    (s : System) → T (sound s) → (budget : ℕ) → mostDrain ≤ budget → (buf : List ℕ) → 2 * mostDrain ≤ length buf → drainOf s budget buf .result .quiet ≡ true
+
+-- The steps that a drain counts are accepted steps other than issues, and taking them one after the other leads to the state left.
+abbrev pub DrainSteps : Type 0
+DrainSteps =
+    (s : System) → T (sound s) → (budget : ℕ) →
+    (accepted isMove s (drained budget s .steps) ≡ length (drained budget s .steps)) × (afterRun s (drained budget s .steps) ≡ drained budget s .state)
+
+-- The room that it asks for is enough: its bytes are no more than twice the lesser of the budget and 656.
+abbrev pub DrainFits : Type 0
+DrainFits = (s : System) → T (sound s) → (budget : ℕ) → length (stepsBytes (drained budget s .steps)) ≤ 2 * min budget mostDrain
+
+-- THE CHOICES
+
+-- the acceptable steps other than issues: each is one of the candidates, where no step stands twice, and of which at most 24 are accepted
+pub record Choices (s : System) : Type 0 where
+  pub listed : (x : Step) → T (isMove x) → T (not (refuses s x)) → List·Memᴰ x (candidatesOf s)
+  pub once : (x : Step) → count (sameMove x) (candidatesOf s) ≤ 1
+  pub most : count (λ x. not (refuses s x)) (candidatesOf s) ≤ 24
+
+-- At most 24 steps other than issues are acceptable in a sound state.
+abbrev pub ChoicesMost : Type 0
+ChoicesMost = (s : System) → T (sound s) → Choices s
+
+-- THE ROOM
+
+-- every queue is within its room: a site's two queues have 5 places, the networks and memory's queues 20
+pub record Roomy (s : System) : Type 0 where
+  pub outgoing : (i : ℕ) → i < s .sizes .sites → siteAt s i .outgoing .count ≤ s .sizes .pend
+  pub incoming : (i : ℕ) → i < s .sizes .sites → siteAt s i .incoming .count ≤ s .sizes .pend
+  pub up : s .up .count ≤ s .sizes .pend * s .sizes .sites
+  pub arrived : s .arrived .count ≤ s .sizes .pend * s .sizes .sites
+  pub served : s .served .count ≤ s .sizes .pend * s .sizes .sites
+  pub down : s .down .count ≤ s .sizes .pend * s .sizes .sites
+  pub five : s .sizes .pend ≤ 5
+  pub twenty : s .sizes .pend * s .sizes .sites ≤ 20
+
+-- The size of every queue stays within its room.
+abbrev pub RunRoomy : Type 0
+RunRoomy = (z : Sizes) → T (mayBeFresh z) → (xs : List Step) → Roomy (run z xs)
