@@ -75,6 +75,10 @@ pends kind line word tag v vs = record { kind = kind; line = line; word = word; 
 abbrev pub says : ℕ → ℕ → ℕ → List ℕ → Message
 says kind i line vs = record { kind = kind; site = i; line = line; dirty = noMarks; values = vs }
 
+-- with its first word marked Dirty
+abbrev pub marked : Message → Message
+marked m = record { kind = m .kind; site = m .site; line = m .line; dirty = set (m .dirty) 0 true; values = m .values }
+
 abbrev pub clean : ℕ → List ℕ → Place
 clean L vs = record { used = true; line = L; dirty = noMarks; values = vs }
 
@@ -112,12 +116,13 @@ soundSamples =
     run (sized 2 2 4 2 2 2) (busy ++ (
     unsound (withGoing 0 (says 1 0 2 noValues)) ∷ unsound (withGoing 0 (says 0 1 2 noValues)) ∷ unsound (withGoing 0 (says 0 0 3 noValues)) ∷
     unsound (withGoing 0 (says 0 0 0 noValues)) ∷ unsound (withGoing 0 (says 0 0 2 (1 ∷ 0 ∷ 0 ∷ 0 ∷ []))) ∷
+    unsound (withGoing 0 (marked (says 0 0 2 noValues))) ∷ unsound (moved 3 (marked (says 2 1 3 noValues))) ∷
     unsound (withGoing 1 (says 0 0 1 noValues)) ∷ unsound (withQueues 0 noSiteQueue noSiteQueue) ∷ unsound (moved 4 (says 0 1 3 noValues)) ∷
     unsound (added 0 (says 0 1 3 noValues)) ∷ unsound (added 0 (says 0 1 1 noValues)) ∷ Serve ⇒ no 8 ∷ [])) ∷
     -- requests stand only on the way to memory, replies only on the way back; a site's two queues hold messages of that site alone
     run (sized 2 2 4 2 2 2) (busy ++ (
     unsound (moved 0 (says 2 1 3 noValues)) ∷ unsound (moved 1 (says 2 1 3 noValues)) ∷ unsound (moved 2 (says 0 1 3 noValues)) ∷
-    unsound (moved 3 (says 0 1 3 noValues)) ∷ unsound (withGoing 0 (says 2 0 2 noValues)) ∷
+    unsound (moved 3 (says 0 1 3 noValues)) ∷ unsound (moved 3 (says 4 1 3 noValues)) ∷ unsound (withGoing 0 (says 2 0 2 noValues)) ∷
     unsound (withQueues 0 noSiteQueue (sitePut noSiteQueue (says 0 0 2 noValues))) ∷
     unsound (λ s. withQueues 1 (sitePut noSiteQueue (says 0 0 2 noValues)) noSiteQueue (withQueues 0 noSiteQueue noSiteQueue s)) ∷
     Serve ⇒ no 8 ∷ [])) ∷
