@@ -66,6 +66,10 @@ withPlace i k p s = putSite s i (withCache (siteAt s i) (set (siteAt s i .cache)
 abbrev pub withQueues : ℕ → SiteQueue → SiteQueue → System → System
 withQueues i out in′ s = putSite s i (withIncoming (withOutgoing (siteAt s i) out) in′)
 
+-- a queue whose places are empty and whose count says otherwise
+abbrev pub counting : ℕ → SiteQueue
+counting n = record { items = noSiteQueue .items; count = n }
+
 abbrev pub waits : ℕ → ℕ → ℕ → ℕ → ℕ → Waiting
 waits kind line word tag v = record { kind = kind; line = line; word = word; tag = tag; value = v }
 
@@ -106,6 +110,10 @@ soundSamples =
     unsound (withEntry 0 2 (pends 0 0 0 1 0 noValues)) ∷ unsound (withEntry 2 0 (pends 0 0 0 1 0 noValues)) ∷
     unsound (withEntry 0 1 (pends 5 2 0 5 0 noValues)) ∷ unsound (withEntry 0 1 (pends 3 2 0 5 0 noValues)) ∷
     unsound (λ s. withGoing 0 (says 1 0 2 noValues) (withEntry 0 1 (pends 4 2 0 1 0 noValues) s)) ∷ Serve ⇒ no 8 ∷ [])) ∷
+    -- a site past the sizes has nothing in use
+    run (sized 2 2 4 2 2 2) (
+    unsound (λ s. putSite s 2 (withPends (siteAt s 2) 1 (siteAt s 2 .entries))) ∷ unsound (λ s. putSite s 2 (withStalls (siteAt s 2) 1 (siteAt s 2 .waiting))) ∷
+    unsound (withQueues 3 (counting 1) noSiteQueue) ∷ unsound (withQueues 3 noSiteQueue (counting 1)) ∷ Serve ⇒ no 8 ∷ []) ∷
     -- each cached line is in its set; no line is both cached and pending; no two entries for one line
     run (sized 2 2 4 2 2 2) (busy ++ (
     unsound (withPlace 0 0 (clean 1 noValues)) ∷ unsound (withPlace 0 0 (clean 0 noValues)) ∷ unsound (withPlace 0 2 (clean 2 noValues)) ∷
