@@ -7,11 +7,11 @@ use Prim.Native.Nat.{ℕ, zero, suc, _+_, _*_, _≤_, _<_}
 use native.Mathlib.Nat.{not-suc-le-zero, le-of-suc-le-suc, eq-or-lt-of-le, mul-le-mul-right}
 use native.Mathlib.Omega.{arith}
 use native.Mathlib.Decide.{ℕ-discrete}
-use lib.Dec.{T, ltb, eqb, ltb→lt, nltb→le}
+use lib.Dec.{T, ltb, eqb, ltb→lt, nltb→le, eqb-refl}
 use lib.ListN.{length, getD, set}
 use lib.Seq.{getD-set-same, getD-set-other}
 use Rattle.lists.specs.Places.{ind, allBelow, sumBelow}
-use Rattle.lists.proofs.Tests.{and-l, and-r, both, by-test, ind-F, ind-most, of-ne}
+use Rattle.lists.proofs.Tests.{and-l, and-r, both, by-test, ind-F, of-ne, ind-T}
 
 -- TESTS
 
@@ -92,13 +92,16 @@ sum-more n (suc m) f h =
     ⊎-elim (λ (e : n ≡ suc m). rw e (omega arith)) (λ (l : n < suc m). omega (arith, sum-more n m f (le-of-suc-le-suc l))) (eq-or-lt-of-le h)
 
 -- a number is one of those below n once at most
+pub one-below : (n k : ℕ) → k < n → sumBelow n (λ i. ind (eqb k i)) ≡ 1
+one-below n k l =
+    omega (
+      arith,
+      sum-put n (λ i. 0) (λ i. ind (eqb k i)) k l (λ j h. ind-F (eqb k j) (of-ne k j (λ e. h (sym e)))),
+      sum-most n 0 (λ i. 0) (λ i l. omega arith),
+      ind-T (eqb k k) (eqb-refl k),
+    )
+
 pub once-below : (n k : ℕ) → sumBelow n (λ i. ind (eqb k i)) ≤ 1
 once-below n k =
-    by-test (ltb k n)
-    (λ l. omega (
-      arith,
-      sum-put n (λ i. 0) (λ i. ind (eqb k i)) k (ltb→lt k n l) (λ j h. ind-F (eqb k j) (of-ne k j (λ e. h (sym e)))),
-      sum-most n 0 (λ i. 0) (λ i l. omega arith),
-      ind-most (eqb k k),
-    ))
+    by-test (ltb k n) (λ l. omega (arith, one-below n k (ltb→lt k n l)))
     (λ l. omega (arith, sum-most n 0 (λ i. ind (eqb k i)) (λ i h. omega (arith, ind-F (eqb k i) (of-ne k i (λ e. omega (arith, e, h, nltb→le k n l)))))))

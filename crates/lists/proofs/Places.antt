@@ -291,3 +291,9 @@ module _ {A : Type 0} where
   set-turn f (x ∷ xs) zero (suc k) y d t u = t
   set-turn f (x ∷ xs) (suc j) zero y d t u = t
   set-turn f (x ∷ xs) (suc j) (suc k) y d t u = set-turn f xs j k y d t u
+
+  -- what is put in the place of the same
+  pub set-same : (n k : ℕ) (a : A) → set (replicate n a) k a ≡ replicate n a
+  set-same zero k a = refl
+  set-same (suc n) zero a = refl
+  set-same (suc n) (suc k) a = ap (λ (xs : List A). a ∷ xs) (set-same n k a)

@@ -102,3 +102,9 @@ ind-most false = omega arith
 pub some-T : (b : Bool) → 0 < ind b → T b
 some-T true h = tt
 some-T false h = absurd (omega (arith, h))
+
+-- a test narrowed by another
+pub ind-and : (a b : Bool) → ind (a && b) ≤ ind a
+ind-and true true = omega arith
+ind-and true false = omega arith
+ind-and false b = omega arith

@@ -2,28 +2,25 @@
 use mathlib.Core.Path.{_≡_, refl, ap}
 use mathlib.Core.List.{List, [], _∷_, _++_}
 use mathlib.Core.Bool.{Bool, true, false, _&&_, cond, Bool·beq}
-use Prim.Native.Nat.{ℕ, _+_, _≤_, _<_}
+use Prim.Native.Nat.{ℕ, _+_, _≤_}
 use native.Mathlib.Omega.{arith}
 use lib.Dec.{T, eqb, eqb→eq}
-use lib.ListN.{replicate, getD-replicate}
 use Rattle.lists.specs.Places.{ind, count}
 use Rattle.lists.proofs.Tests.{both, by-cond, some-T, positive}
 use Rattle.lists.proofs.Counts.{count-append, count-both}
 use Rattle.model.specs.declared.Sizes.{Sizes}
-use Rattle.model.specs.declared.Pends.{Pends}
-use Rattle.model.specs.declared.Stalls.{Stalls}
 use Rattle.model.specs.declared.System.{System}
 use Rattle.model.specs.declared.After.{After}
 use Rattle.model.specs.declared.Step.{Step}
 use Rattle.model.specs.Limits.{mayBeFresh}
-use Rattle.model.specs.Fresh.{noEntry, noWaiting, blank}
-use Rattle.model.specs.Parts.{siteAt, pastPends, pastStalls}
+use Rattle.model.specs.Fresh.{blank}
+use Rattle.model.specs.Parts.{Site}
 use Rattle.model.specs.Steps.{stepOf, answerOf}
 use Rattle.promises.specs.Runs.{afterRun, Event, events, Turn, free, due, alternate, isIssued, isAnswered}
 use Rattle.promises.specs.Promises.{run, Alternating, AllAnswered}
 use Rattle.promises.proofs.Sound.{Sound, limits}
 use Rattle.promises.proofs.Stepping.{stepping}
-use Rattle.promises.proofs.Kept.{kept, fresh-sound}
+use Rattle.promises.proofs.Kept.{kept, fresh-sound, blank-site}
 use Rattle.promises.proofs.Quiet.{Idle, quiet-idle}
 use Rattle.promises.proofs.Public.{stepped-sound, run-kept}
 use Rattle.promises.proofs.Answers.{outstanding, left, formOf, by-forms, issuesAs, answersAs, issueIn, answerIn, step-once, one-out, none-left, Issuing, no-issue, one-issue, issuing, Answering, no-answer, one-answer, answering}
@@ -154,16 +151,12 @@ accounted s h xs i t =
 
 module _ (z : Sizes) (l : T (mayBeFresh z)) where
   fresh-out : (i t : ℕ) (b : Bool) → outstanding i t b (blank z) ≡ 0
-  fresh-out i t b = none-left (blank z) (fresh-sound z l) i t (λ j k. (pends j (within j k), stalls j (within j k))) b
+  fresh-out i t b = none-left (blank z) (fresh-sound z l) i t idle b
     where
-      within : (j : ℕ) → j < z .sites → j < 4
-      within j k = omega (arith, k, limits z l .sites-most)
-
-      stalls : (j : ℕ) → j < 4 → siteAt (blank z) j .stalls ≡ 0
-      stalls j k = ap (λ (x : Stalls). x .count) (getD-replicate 4 j (record { waiting = replicate 8 noWaiting; count = 0 }) pastStalls k)
-
-      pends : (j : ℕ) → j < 4 → siteAt (blank z) j .pends ≡ 0
-      pends j k = ap (λ (x : Pends). x .count) (getD-replicate 4 j (record { entries = replicate 5 noEntry; count = 0 }) pastPends k)
+      idle : Idle (blank z)
+      idle j k =
+          let e = blank-site z j (omega (arith, k, limits z l .sites-most)) in
+          (ap (λ (x : Site). x .pends) e, ap (λ (x : Site). x .stalls) e)
 
   -- Where no instruction is outstanding at any site, each accepted one has been answered.
   pub settled : (xs : List Step) → Idle (run z xs) → (i t : ℕ) → count isIssued (events i t (blank z) xs) ≡ count isAnswered (events i t (blank z) xs)

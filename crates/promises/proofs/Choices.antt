@@ -6,7 +6,7 @@ use native.Mathlib.Omega.{arith}
 use lib.Dec.{T, eqb, lt→ltb}
 use lib.ListN.{getD}
 use Rattle.lists.specs.Places.{ind, sumBelow, count}
-use Rattle.lists.proofs.Tests.{by-test, ind-T, ind-F, ind-most}
+use Rattle.lists.proofs.Tests.{ind-and, by-test, ind-T, ind-F, ind-most}
 use Rattle.lists.proofs.Below.{sum-less, sum-most, sum-both, sum-more, once-below}
 use Rattle.model.specs.declared.System.{System}
 use Rattle.model.specs.declared.After.{After}
@@ -102,10 +102,6 @@ both-once : (b : Bool) (n k : ℕ) → sumBelow n (λ i. ind (b && eqb k i)) ≤
 both-once true n k = once-below n k
 both-once false n k = omega (arith, sum-most n 0 (λ i. 0) (λ i l. omega arith))
 
-and-most : (a b : Bool) → ind (a && b) ≤ ind a
-and-most true b = ind-most b
-and-most false b = omega arith
-
 pub candidates-once : (n u d : ℕ) (x : Step) → count (sameMove x) (candidates n u d) ≤ 1
 unfolding sumBelow numbersOf
 candidates-once n u d x =
@@ -118,8 +114,8 @@ candidates-once n u d x =
       both-once (eqb k 1) n j,
       both-once (eqb k 2) n j,
       both-once (eqb k 7) n j,
-      and-most (eqb k 4) (eqb j 0),
-      and-most (eqb k 5) (eqb j 0),
+      ind-and (eqb k 4) (eqb j 0),
+      ind-and (eqb k 5) (eqb j 0),
       both-once (eqb k 3) u j,
       both-once (eqb k 6) d j,
     )

@@ -160,7 +160,7 @@ kept s h x = keeps s h x (stepOf s x) (stepping s h x)
 -- FRESH
 
 -- each site of a fresh state is empty
-abbrev noSite : Site
+abbrev pub noSite : Site
 noSite = record {
   cache = replicate 8 noSet;
   pends = 0;
@@ -171,7 +171,7 @@ noSite = record {
   incoming = noSiteQueue;
 }
 
-blank-site : (z : Sizes) (i : ℕ) → i < 4 → siteAt (blank z) i ≡ noSite
+pub blank-site : (z : Sizes) (i : ℕ) → i < 4 → siteAt (blank z) i ≡ noSite
 blank-site z i l =
     rw (
       getD-replicate 4 i (record { sets = replicate 8 noSet }) pastCache l,

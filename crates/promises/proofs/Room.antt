@@ -1,15 +1,15 @@
 -- How many messages there are: as many as pend entries, so that there is room for each wherever it goes.
-use mathlib.Core.Path.{_≡_, sym, _∙_}
+use mathlib.Core.Path.{_≡_, ap, sym, _∙_}
 use mathlib.Core.List.{List, [], _∷_}
-use mathlib.Core.Bool.{Bool, true, false, not, _&&_}
+use mathlib.Core.Bool.{Bool, true, and-true}
 use Prim.Native.Nat.{ℕ, _+_, _*_, _≤_, _<_}
 use native.Mathlib.Nat.{mul-comm, mul-le-mul}
 use native.Mathlib.Omega.{arith}
-use lib.Dec.{T, ltb, eqb, ltb→lt, nltb→le, eqb-refl}
+use lib.Dec.{T, ltb, eqb, ltb→lt, nltb→le}
 use Rattle.lists.specs.Places.{ind, weigh, tally, sumBelow, count, each}
-use Rattle.lists.proofs.Tests.{and-l, and-r, both, by-test, ind-T, ind-F, of-ne}
+use Rattle.lists.proofs.Tests.{and-l, and-r, both, by-test}
 use Rattle.lists.proofs.Places.{array-fits, fits-any, tally-all}
-use Rattle.lists.proofs.Below.{sum-put, sum-at, sum-same, sum-both, sum-most}
+use Rattle.lists.proofs.Below.{one-below, sum-at, sum-same, sum-both, sum-most}
 use Rattle.model.specs.declared.Message.{Message}
 use Rattle.model.specs.declared.Queue.{Queue}
 use Rattle.model.specs.declared.System.{System}
@@ -25,25 +25,6 @@ anything L c = true
 
 -- MESSAGES BY SITE
 
-one-below : (n k : ℕ) → k < n → sumBelow n (λ i. ind (eqb k i && true)) ≡ 1
-one-below n k l =
-    omega (
-      arith,
-      sum-put n (λ i. 0) (λ i. ind (eqb k i && true)) k l (λ j h. ind-F (eqb k j && true) (no j h)),
-      zeros n,
-      ind-T (eqb k k && true) (both (eqb k k) _ (eqb-refl k) tt),
-    )
-  where
-    no : (j : ℕ) → (j ≡ k → ⊥) → T (not (eqb k j && true))
-    no j h = of-and (eqb k j) (of-ne k j (λ e. h (sym e)))
-      where
-        of-and : (b : Bool) → T (not b) → T (not (b && true))
-        of-and true t = t
-        of-and false t = tt
-
-    zeros : (n : ℕ) → sumBelow n (λ i. 0) ≡ 0
-    zeros n = omega (arith, sum-most n 0 (λ i. 0) (λ i l. omega arith))
-
 by-site : (n : ℕ) (ms : List Message) → T (each (λ m. ltb (m .site) n) ms) → count (λ m. true) ms ≡ sumBelow n (λ i. count (isAt i anything) ms)
 unfolding count each
 by-site n [] t = omega (arith, sum-most n 0 (λ i. 0) (λ i l. omega arith))
@@ -52,6 +33,7 @@ by-site n (m ∷ ms) t =
       arith,
       by-site n ms (and-r (ltb (m .site) n) _ t),
       one-below n (m .site) (ltb→lt (m .site) n (and-l (ltb (m .site) n) _ t)),
+      sum-same n (λ i. ind (eqb (m .site) i)) (λ i. ind (isAt i anything m)) (λ i l. ap ind (and-true (eqb (m .site) i))),
       sum-both n (λ i. ind (isAt i anything m)) (λ i. count (isAt i anything) ms),
     )
 

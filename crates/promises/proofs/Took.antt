@@ -9,7 +9,7 @@ use lib.Dec.{T, leb, ltb, eqb, leb→le, ltb→lt, lt→ltb, eqb→eq, eqb-refl}
 use lib.ListN.{length, getD, set}
 use lib.Seq.{set-set, getD-set-same}
 use Rattle.lists.specs.Places.{ind, fits, array, tally, noneOf, removed, unlike, firstAt}
-use Rattle.lists.proofs.Tests.{and-l, and-r, both, by-test, T-true, not-T, T-not, not-eqb-sym, ind-T}
+use Rattle.lists.proofs.Tests.{ind-and, and-l, and-r, both, by-test, T-true, not-T, T-not, not-eqb-sym, ind-T}
 use Rattle.lists.proofs.Places.{array-at, array-same, fits-at, weigh-pull, weigh-set, weigh-at, weigh-both, weigh-less, first-below, first-passes}
 use Rattle.lists.proofs.Below.{sum-at}
 use Rattle.lists.proofs.Unlike.{unlike-rest, unlike-swap, unlike-once}
@@ -54,9 +54,6 @@ ind-both true true = refl
 ind-both true false = refl
 ind-both false b = refl
 
-ind-less : (a b : Bool) → ind (a && b) ≤ ind a
-ind-less a b = omega (arith, ind-both a b)
-
 pub found : (L trip n : ℕ) (es : List Entry) → T (unlike sameLine n es) → n ≤ length es → 0 < tally (asksAt (wants L trip)) n es → Found L trip n es
 found L trip n es d m h = record { below = there; line-is = its-line; trip-is = its-trip }
   where
@@ -65,7 +62,7 @@ found L trip n es d m h = record { below = there; line-is = its-line; trip-is = 
 
     some-line : 0 < tally at-line n es
     some-line =
-        omega (arith, h, weigh-less (λ (e : Entry). ind (asksAt (wants L trip) e)) (λ (e : Entry). ind (at-line e)) (λ e. ind-less (at-line e) (eqb (tripFor (e .kind)) trip)) n es)
+        omega (arith, h, weigh-less (λ (e : Entry). ind (asksAt (wants L trip) e)) (λ (e : Entry). ind (at-line e)) (λ e. ind-and (at-line e) (eqb (tripFor (e .kind)) trip)) n es)
 
     p : ℕ
     p = firstAt at-line n es

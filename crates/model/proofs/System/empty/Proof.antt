@@ -1,8 +1,6 @@
-use mathlib.Core.Path.{_≡_, refl, ap}
-use mathlib.Core.List.{_∷_}
-use Prim.Native.Nat.{ℕ, zero, suc, _%_}
-use lib.ListN.{set, replicate}
+use Prim.Native.Nat.{_%_}
 use borrow.Author.Needs.{needs}
+use Rattle.lists.proofs.Places.{set-same}
 use Rattle.model.specs.Fresh.{noLine}
 use Rattle.model.proofs.System.empty.Statement.{statement}
 use Rattle.model.proofs.System.empty.Tie as tie
@@ -28,12 +26,6 @@ mul-line c = search needs
 element-set-from-line : tie.Need-element-set-from-line
 element-set-from-line c = search needs
 
--- what is put in the place of the same
-same : {A : Type 0} (n k : ℕ) (a : A) → set (replicate n a) k a ≡ replicate n a
-same zero k a = refl
-same (suc n) zero a = refl
-same (suc n) (suc k) a = ap (λ xs. a ∷ xs) (same n k a)
-
 returns : tie.Need-returns
 returns c =
     let b = c .before in
@@ -42,7 +34,7 @@ returns c =
       b .before .no-stalls .ensures,
       b .before .before .no-pends .ensures,
       b .before .before .before .no-set .ensures,
-      same 16 (b .before .before .before .before .args .z .sites % 16) noLine,
+      set-same 16 (b .before .before .before .before .args .z .sites % 16) noLine,
     )
 
 pub empty-spec : {M : Type 1} → statement M
