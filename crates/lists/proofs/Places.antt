@@ -245,11 +245,6 @@ module _ {A : Type 0} where
     array-set p y h u =
         both (eqb (length (set xs p y)) places) _ (rw (length-set, array-length) (eqb-refl places)) (fits-set f g n p xs y array-fits h u)
 
-  pub array-map : (places : ℕ) (f f′ g : A → Bool) → ((x : A) → T (f x) → T (f′ x)) → (n : ℕ) (xs : List A) → T (array places f g n xs) → T (array places f′ g n xs)
-  unfolding array
-  array-map places f f′ g k n xs t =
-      both (eqb (length xs) places) _ (and-l (eqb (length xs) places) _ t) (fits-map f f′ g k n xs (and-r (eqb (length xs) places) _ t))
-
   pub array-same : (f g : A → Bool) (x : A) → T (f x) → T (g x) → (n m : ℕ) → n ≤ m → T (array m f g n (replicate m x))
   unfolding array
   array-same f g x a b n m h = both (eqb (length (replicate m x)) m) _ (rw length-replicate (eqb-refl m)) (fits-same f g x a b n m h)
