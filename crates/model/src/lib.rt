@@ -1,9 +1,8 @@
 // The types of document 01: what a system holds, the steps, the instructions, and what an operation gives back. And the fresh system.
 // What they mean is in specs/. An array has the largest size that a system may have; a count or a size says how much is in use.
 ghost use mathlib.Core.Path.{_≡_};
-ghost use lib.ListN.{replicate};
 ghost use Rattle.model.specs.Limits.{within, inLimits};
-ghost use Rattle.model.specs.Fresh.{noMessage, noEntry, noWaiting, noSet, blank, freshOf};
+ghost use Rattle.model.specs.Fresh.{noMessage, noEntry, noWaiting, noPlace, blank, freshOf};
 
 // A word's value.
 pub type Value = u32;
@@ -266,60 +265,59 @@ impl Sizes {
     }
 }
 
-fn no_message() -> Message
-    ensures { λ r. ⌜ r ≡ noMessage ⌝ }
-{
-    Message {
-        kind: 0,
-        site: 0,
-        line: 0,
-        dirty: [false; 4],
-        values: [0; 4],
+impl Message {
+    pub fn none() -> Message
+        ensures { λ r. ⌜ r ≡ noMessage ⌝ }
+    {
+        Message {
+            kind: 0,
+            site: 0,
+            line: 0,
+            dirty: [false; 4],
+            values: [0; 4],
+        }
     }
 }
 
-fn no_set() -> CacheSet
-    ensures { λ r. ⌜ r ≡ noSet ⌝ }
-{
-    let place = Place {
-        used: false,
-        line: 0,
-        dirty: [false; 4],
-        values: [0; 4],
-    };
-    CacheSet { low: place }
-}
-
-fn no_pends() -> Pends
-    ensures { λ r. ⌜ r ≡ record { entries = replicate 5 noEntry; count = 0 } ⌝ }
-{
-    let entry = Entry {
-        kind: 0,
-        line: 0,
-        word: 0,
-        tag: 0,
-        value: 0,
-        values: [0; 4],
-    };
-    Pends {
-        entries: [entry; 5],
-        count: 0,
+impl Entry {
+    pub fn none() -> Entry
+        ensures { λ r. ⌜ r ≡ noEntry ⌝ }
+    {
+        Entry {
+            kind: 0,
+            line: 0,
+            word: 0,
+            tag: 0,
+            value: 0,
+            values: [0; 4],
+        }
     }
 }
 
-fn no_stalls() -> Stalls
-    ensures { λ r. ⌜ r ≡ record { waiting = replicate 8 noWaiting; count = 0 } ⌝ }
-{
-    let wait = Waiting {
-        kind: 0,
-        line: 0,
-        word: 0,
-        tag: 0,
-        value: 0,
-    };
-    Stalls {
-        waiting: [wait; 8],
-        count: 0,
+impl Waiting {
+    pub fn none() -> Waiting
+        ensures { λ r. ⌜ r ≡ noWaiting ⌝ }
+    {
+        Waiting {
+            kind: 0,
+            line: 0,
+            word: 0,
+            tag: 0,
+            value: 0,
+        }
+    }
+}
+
+impl Place {
+    pub fn none() -> Place
+        ensures { λ r. ⌜ r ≡ noPlace ⌝ }
+    {
+        Place {
+            used: false,
+            line: 0,
+            dirty: [false; 4],
+            values: [0; 4],
+        }
     }
 }
 
@@ -370,11 +368,20 @@ impl System {
         ensures { λ r. ⌜ r ≡ blank z ⌝ }
     {
         let line = Line { values: [0; 4] };
-        let set = no_set();
+        let place = Place::none();
+        let set = CacheSet { low: place };
         let cache = Cache { sets: [set; 8] };
-        let pends = no_pends();
-        let stalls = no_stalls();
-        let message = no_message();
+        let entry = Entry::none();
+        let pends = Pends {
+            entries: [entry; 5],
+            count: 0,
+        };
+        let wait = Waiting::none();
+        let stalls = Stalls {
+            waiting: [wait; 8],
+            count: 0,
+        };
+        let message = Message::none();
         let near = SiteQueue {
             items: [message; 5],
             count: 0,

@@ -5,17 +5,17 @@ use Rattle.model.specs.Fresh.{noLine}
 use Rattle.model.proofs.System.empty.Statement.{statement}
 use Rattle.model.proofs.System.empty.Tie as tie
 
-no-set-requires : tie.Need-no-set-requires
-no-set-requires c κs = search needs
+none-requires : tie.Need-none-requires
+none-requires c κs = search needs
 
-no-pends-requires : tie.Need-no-pends-requires
-no-pends-requires c κs = search needs
+none-requires-2 : tie.Need-none-requires-2
+none-requires-2 c κs = search needs
 
-no-stalls-requires : tie.Need-no-stalls-requires
-no-stalls-requires c κs = search needs
+none-requires-3 : tie.Need-none-requires-3
+none-requires-3 c κs = search needs
 
-no-message-requires : tie.Need-no-message-requires
-no-message-requires c κs = search needs
+none-requires-4 : tie.Need-none-requires-4
+none-requires-4 c κs = search needs
 
 cast-k : tie.Need-cast-k
 cast-k c = search needs
@@ -30,10 +30,10 @@ returns : tie.Need-returns
 returns c =
     let b = c .before in
     rw (
-      b .no-message .ensures,
-      b .before .no-stalls .ensures,
-      b .before .before .no-pends .ensures,
-      b .before .before .before .no-set .ensures,
+      b .none4 .ensures,
+      b .before .none3 .ensures,
+      b .before .before .none2 .ensures,
+      b .before .before .before .none .ensures,
       set-same 16 (b .before .before .before .before .args .z .sites % 16) noLine,
     )
 
@@ -41,10 +41,10 @@ pub empty-spec : {M : Type 1} → statement M
 empty-spec =
     tie.close
     (tie.spec
-    no-set-requires
-    no-pends-requires
-    no-stalls-requires
-    no-message-requires
+    none-requires
+    none-requires-2
+    none-requires-3
+    none-requires-4
     cast-k
     mul-line
     element-set-from-line
