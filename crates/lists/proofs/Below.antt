@@ -1,10 +1,11 @@
 -- Laws of what is tested, added up or put together over the numbers below a bound.
-use mathlib.Core.Path.{_≡_, refl, sym}
+use mathlib.Core.Path.{_≡_, refl, sym, ap, _∙_}
 use mathlib.Core.Logic.{⊎-elim}
 use mathlib.Core.List.{List}
-use mathlib.Core.Bool.{Bool}
+use mathlib.Core.Bool.{Bool, _&&_, and-true, and-assoc}
 use Prim.Native.Nat.{ℕ, zero, suc, _+_, _*_, _≤_, _<_}
 use native.Mathlib.Nat.{not-suc-le-zero, le-of-suc-le-suc, eq-or-lt-of-le, mul-le-mul-right}
+use native.Mathlib.Numerals.{add-one}
 use native.Mathlib.Omega.{arith}
 use native.Mathlib.Decide.{ℕ-discrete}
 use lib.Dec.{T, ltb, eqb, ltb→lt, nltb→le, eqb-refl}
@@ -34,6 +35,23 @@ below-set n f xs i y d h t u = below-all n (λ j. f j (getD (set xs i y) j d)) (
     go : (j : ℕ) → j < n → Dec (j ≡ i) → T (f j (getD (set xs i y) j d))
     go j l (yes e) = rw (e, getD-set-same xs i y d h) u
     go j l (no e) = rw (getD-set-other xs i j y d e) (below-at n (λ j. f j (getD xs j d)) t j l)
+
+-- one number more
+pub below-turn : (n : ℕ) (f : ℕ → Bool) → allBelow (n + 1) f ≡ (allBelow n f && f n)
+unfolding allBelow
+below-turn n f = rw (add-one n)
+
+-- the first number apart
+pub below-first : (n : ℕ) (f : ℕ → Bool) → allBelow (suc n) f ≡ (f 0 && allBelow n (λ k. f (suc k)))
+unfolding allBelow
+below-first zero f = sym (and-true (f 0))
+below-first (suc n) f = ap (λ b. b && f (suc n)) (below-first n f) ∙ and-assoc (f 0) (allBelow n (λ k. f (suc k))) (f (suc n))
+
+-- tests that say the same of each number
+pub below-same : (n : ℕ) (f g : ℕ → Bool) → ((k : ℕ) → k < n → f k ≡ g k) → allBelow n f ≡ allBelow n g
+unfolding allBelow
+below-same zero f g h = refl
+below-same (suc n) f g h = rw (below-same n f g (λ k l. h k (omega arith)), h n (omega arith))
 
 -- SUMS
 

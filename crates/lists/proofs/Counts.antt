@@ -2,14 +2,14 @@
 use mathlib.Core.Path.{_≡_, refl, ap, _∙_, subst}
 use mathlib.Core.Logic.{⊎-elim}
 use mathlib.Core.List.{List, [], _∷_, _++_, map, List·Memᴰ, List·Memᴰ·head, List·Memᴰ·tail, Memᴰ·append-left, Memᴰ·append-right}
-use mathlib.Core.Bool.{Bool}
+use mathlib.Core.Bool.{Bool, true}
 use Prim.Native.Nat.{ℕ, zero, suc, _+_, _≤_, _<_}
 use native.Mathlib.Nat.{not-suc-le-zero, le-of-suc-le-suc, eq-or-lt-of-le, add-zero, zero-add, suc-add, add-suc}
 use native.Mathlib.Omega.{arith}
 use lib.Dec.{T}
 use lib.ListN.{length, getD, take}
 use Rattle.lists.specs.Places.{ind, fits, weigh, tally, eachOf, sumBelow, upFrom, count, each, some, allOf}
-use Rattle.lists.proofs.Tests.{and-l, and-r, both, or-l, or-r, by-or, by-test, ind-T, ind-F}
+use Rattle.lists.proofs.Tests.{and-l, and-r, both, or-l, or-r, by-or, by-test, ind-T, ind-F, ind-most}
 use Rattle.lists.proofs.Below.{sum-same}
 
 module _ {A : Type 0} where
@@ -33,6 +33,12 @@ module _ {A : Type 0} where
   unfolding count
   count-same f g [] h = refl
   count-same f g (x ∷ xs) h = omega (arith, ap ind (h x), count-same f g xs h)
+
+  -- tests that agree on what passes another
+  pub count-alike : (ok f g : A → Bool) → ((x : A) → T (ok x) → f x ≡ g x) → (xs : List A) → T (each ok xs) → count f xs ≡ count g xs
+  unfolding count each
+  count-alike ok f g h [] t = refl
+  count-alike ok f g h (x ∷ xs) t = rw (h x (and-l (ok x) _ t), count-alike ok f g h xs (and-r (ok x) _ t))
 
   pub count-both : (f g h : A → Bool) → ((x : A) → ind (f x) ≡ ind (g x) + ind (h x)) → (xs : List A) → count f xs ≡ count g xs + count h xs
   unfolding count
@@ -137,6 +143,27 @@ module _ {A : Type 0} where
   unfolding count
   count-up f g n =
       ap (count f) (up-allOf g n) ∙ count-allOf f n (λ i. g i ∷ []) ∙ sum-same n (λ i. ind (f (g i))) (λ i. ind (f (g i)) + 0) (λ i l. omega arith)
+
+  -- ALL
+
+  count-most : (f : A → Bool) (xs : List A) → count f xs ≤ count (λ x. true) xs
+  unfolding count
+  count-most f [] = omega arith
+  count-most f (x ∷ xs) = omega (arith, ind-most (f x), count-most f xs)
+
+  -- each element passes, by the count
+  pub each-full : (f : A → Bool) (xs : List A) → count f xs ≡ count (λ x. true) xs → T (each f xs)
+  unfolding count each
+  each-full f [] e = tt
+  each-full f (x ∷ xs) e =
+      by-test (f x)
+      (λ t. both (f x) _ t (each-full f xs (omega (arith, e, ind-T (f x) t))))
+      (λ t. absurd (omega (arith, e, ind-F (f x) t, count-most f xs)))
+
+  pub full-each : (f : A → Bool) (xs : List A) → T (each f xs) → count f xs ≡ count (λ x. true) xs
+  unfolding count each
+  full-each f [] t = refl
+  full-each f (x ∷ xs) t = omega (arith, ind-T (f x) (and-l (f x) _ t), full-each f xs (and-r (f x) _ t))
 
   -- NOTHING
 

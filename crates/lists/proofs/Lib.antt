@@ -1,5 +1,10 @@
 pub mod Tests
+pub mod Each
 pub mod Places
 pub mod Unlike
 pub mod Below
 pub mod Counts
+pub mod Long
+pub mod Turns
+pub mod Shift
+pub mod Seek

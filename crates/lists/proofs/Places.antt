@@ -1,15 +1,16 @@
 -- Laws of an array with a count: what holds of its places after one is added, taken out or put anew.
 use mathlib.Core.Path.{_≡_, refl, ap}
 use mathlib.Core.List.{List, [], _∷_, _++_}
-use mathlib.Core.Bool.{Bool, true}
+use mathlib.Core.Bool.{Bool, true, not, _&&_, and-false}
 use Prim.Native.Nat.{ℕ, zero, suc, _+_, _-_, _*_, _≤_, _<_}
 use native.Mathlib.Nat.{not-suc-le-zero, le-of-suc-le-suc, suc-sub-suc, sub-zero}
 use native.Mathlib.Numerals.{add-one}
 use native.Mathlib.Omega.{arith}
-use lib.Dec.{T, eqb, eqb→eq, eqb-refl}
+use lib.Dec.{T, leb, eqb, eqb→eq, eqb-refl, leb·zero, eqb·suc-zero}
 use lib.ListN.{length, getD, set, replicate, length-set, length-replicate}
 use Rattle.lists.specs.Places.{fits, array, weigh, tally, eachOf, noneOf, removed, firstAt}
 use Rattle.lists.proofs.Tests.{and-l, and-r, both, by-cond, ind-T, ind-F}
+use Rattle.lists.proofs.Each.{each-none, each-all}
 
 module _ {A : Type 0} where
   -- FITS
@@ -100,12 +101,7 @@ module _ {A : Type 0} where
 
   -- no place is in use
   pub none-used : (f : A → Bool) (n : ℕ) (xs : List A) → n ≡ 0 → T (noneOf f n xs)
-  unfolding fits
-  none-used f n xs e = rw e (go xs)
-    where
-      go : (ys : List A) → T (noneOf f 0 ys)
-      go [] = tt
-      go (y ∷ ys) = go ys
+  none-used f n xs e = rw (e, each-none (λ (x : A). not (f x)) xs) tt
 
   pub length-removed : (z : A) (p : ℕ) (xs : List A) → length (removed z p xs) ≡ length xs
   unfolding removed
@@ -211,6 +207,9 @@ module _ {A : Type 0} where
   tally-all f (suc n) [] t = absurd t
   tally-all f (suc n) (x ∷ xs) t = omega (arith, ind-T (f x) (and-l (f x) _ t), tally-all f n xs (and-r (f x) _ t))
 
+  pub tally-places : (n : ℕ) (xs : List A) → n ≤ length xs → tally (λ (x : A). true) n xs ≡ n
+  tally-places n xs h = tally-all (λ (x : A). true) n xs (rw (each-all (λ (x : A). true) (λ x. refl) n xs h) tt)
+
   -- AN ARRAY
 
   module _ (places : ℕ) (f g : A → Bool) (n : ℕ) (xs : List A) (t : T (array places f g n xs)) where
@@ -257,6 +256,18 @@ module _ {A : Type 0} where
       go : (k : ℕ) → T (fits f g 0 (replicate k x))
       go zero = tt
       go (suc k) = both (g x) _ t (go k)
+
+  -- of places none of which is in use, it is not asked what those in use must pass
+  fits-none : (f f′ g : A → Bool) (xs : List A) → fits f g 0 xs ≡ fits f′ g 0 xs
+  unfolding fits
+  fits-none f f′ g [] = refl
+  fits-none f f′ g (x ∷ xs) = rw (fits-none f f′ g xs)
+
+  pub array-none : (f′ : A → Bool) (b : Bool) (places most : ℕ) (f g : A → Bool) (n : ℕ) (xs : List A) →
+      (b && eqb n 0 && (leb n most && array places f g n xs)) ≡ (b && eqb n 0 && array places f′ g 0 xs)
+  unfolding array
+  array-none f′ b places most f g zero xs = rw (leb·zero, fits-none f f′ g xs)
+  array-none f′ b places most f g (suc n) xs = rw (eqb·suc-zero, and-false)
 
   -- THE FIRST PLACE THAT PASSES
 

@@ -1,5 +1,5 @@
 -- Tests and what follows from them: T b says that the test b passes.
-use mathlib.Core.Path.{_≡_, refl}
+use mathlib.Core.Path.{_≡_, refl, sym}
 use mathlib.Core.Bool.{Bool, true, false, not, _&&_, _||_, cond}
 use Prim.Native.Nat.{ℕ, zero, suc, _≤_, _<_}
 use native.Mathlib.Omega.{arith}
@@ -68,10 +68,19 @@ pub cond-F : {A : Type 0} (b : Bool) (x y : A) → T (not b) → cond b x y ≡ 
 cond-F true x y t = absurd t
 cond-F false x y t = refl
 
+-- two tests that pass in the same case
+pub same-test : (a b : Bool) → (T a → T b) → (T b → T a) → a ≡ b
+same-test true b f g = sym (T-true b (f tt))
+same-test false true f g = absurd (g tt)
+same-test false false f g = refl
+
 -- NUMBERS
 
 pub eqb-sym : (a b : ℕ) → T (eqb a b) → T (eqb b a)
 eqb-sym a b t = let e : a ≡ b = eqb→eq a b t in rw e (eqb-refl b)
+
+pub eqb-comm : (a b : ℕ) → eqb a b ≡ eqb b a
+eqb-comm a b = same-test (eqb a b) (eqb b a) (eqb-sym a b) (eqb-sym b a)
 
 pub not-eqb-sym : (a b : ℕ) → T (not (eqb a b)) → T (not (eqb b a))
 not-eqb-sym a b t = not-T (eqb b a) (λ u. T-not (eqb a b) t (eqb-sym b a u))

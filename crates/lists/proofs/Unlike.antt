@@ -1,7 +1,7 @@
 -- Laws of an array no two of whose places in use are alike.
-use mathlib.Core.Path.{_≡_}
+use mathlib.Core.Path.{_≡_, refl}
 use mathlib.Core.List.{List, [], _∷_, _++_}
-use mathlib.Core.Bool.{Bool, true, not}
+use mathlib.Core.Bool.{Bool, true, false, not, _&&_}
 use Prim.Native.Nat.{ℕ, zero, suc, _+_, _-_, _≤_, _<_}
 use native.Mathlib.Nat.{not-suc-le-zero, le-of-suc-le-suc, suc-sub-suc, sub-zero}
 use native.Mathlib.Numerals.{add-one}
@@ -10,18 +10,15 @@ use lib.Dec.{T}
 use lib.ListN.{length, getD, set}
 use Rattle.lists.specs.Places.{ind, fits, weigh, tally, noneOf, removed, unlike}
 use Rattle.lists.proofs.Tests.{and-l, and-r, both, by-test, not-T, T-not, ind-T, ind-F}
-use Rattle.lists.proofs.Places.{fits-push′, fits-end, fits-pull′, fits-set, fits-map, fits-at, weigh-none}
+use Rattle.lists.proofs.Each.{each-none, each-suc}
+use Rattle.lists.proofs.Places.{fits-push′, fits-end, fits-pull′, fits-set, fits-map, fits-at, none-used, weigh-none}
 
 module _ {A : Type 0} where
   unlike-push′ : (same : A → A → Bool) (n : ℕ) (xs : List A) (m : A) → T (unlike same n xs) → n < length xs →
       T (noneOf (λ (x : A). same x m) n xs) → T (unlike same (suc n) (set xs n m))
   unfolding unlike fits
   unlike-push′ same n [] m t h u = absurd (not-suc-le-zero h)
-  unlike-push′ same zero (x ∷ xs) m t h u = both (noneOf (same m) 0 xs) _ (free-all xs) tt
-    where
-      free-all : (ys : List A) → T (noneOf (same m) 0 ys)
-      free-all [] = tt
-      free-all (y ∷ ys) = free-all ys
+  unlike-push′ same zero (x ∷ xs) m t h u = both (noneOf (same m) 0 xs) _ (none-used (same m) 0 xs refl) tt
   unlike-push′ same (suc n) (x ∷ xs) m t h u =
       both (noneOf (same x) (suc n) (set xs n m)) _
       (fits-push′ (λ (y : A). not (same x y)) (λ (y : A). true) n xs m (and-l (noneOf (same x) n xs) _ t) (le-of-suc-le-suc h) (and-l (not (same x m)) _ u))
@@ -136,3 +133,28 @@ module _ {A : Type 0} where
             (λ y v. ind-F (g y) (not-T (g y) (λ w. T-not (same x y) v (f x y u w)))) n xs (and-l (noneOf (same x) n xs) _ t),
       ))
       (λ u. omega (arith, ind-F (g x) u, unlike-most same g f n xs (and-r (noneOf (same x) n xs) _ t)))
+
+  -- ONE PLACE MORE
+
+  unlike-suc : (same : A → A → Bool) (i : ℕ) (xs : List A) (d : A) → i < length xs →
+      unlike same (suc i) xs ≡ (unlike same i xs && noneOf (λ (x : A). same x (getD xs i d)) i xs)
+  unfolding unlike fits
+  unlike-suc same i [] d h = absurd (not-suc-le-zero h)
+  unlike-suc same zero (x ∷ xs) d h = rw (each-none (λ (y : A). not (same x y)) xs, each-none (λ (y : A). not (same y x)) xs)
+  unlike-suc same (suc i) (x ∷ xs) d h =
+      rw (
+        each-suc (λ (y : A). not (same x y)) i xs d (le-of-suc-le-suc h),
+        unlike-suc same i xs d (le-of-suc-le-suc h),
+      )
+      (swap (noneOf (same x) i xs) (not (same x (getD xs i d))) (unlike same i xs) (noneOf (λ (y : A). same y (getD xs i d)) i xs))
+    where
+      swap : (a b c e : Bool) → (a && b && (c && e)) ≡ (a && c && (b && e))
+      swap true true c e = refl
+      swap true false true e = refl
+      swap true false false e = refl
+      swap false b c e = refl
+
+  -- the place behind the first i differs from each of them
+  pub unlike-turn : (same : A → A → Bool) (i : ℕ) (xs : List A) (d : A) → i < length xs →
+      unlike same (i + 1) xs ≡ (unlike same i xs && noneOf (λ (x : A). same x (getD xs i d)) i xs)
+  unlike-turn same i xs d h = rw add-one (unlike-suc same i xs d h)

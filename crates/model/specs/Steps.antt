@@ -26,7 +26,7 @@ use Rattle.model.specs.Parts.{Site, siteAt, putSite, withMemory, withOut
 use Rattle.model.specs.Sound.{sound}
 use Rattle.model.specs.Issue.{isFence, asWaiting, addressesFit, tagFree, mayIssue}
 use Rattle.model.specs.Handling.{placeOf, factsOf, decided, Handled, performed, mustWait}
-use Rattle.model.specs.Serve.{memoryAfter, replyTo}
+use Rattle.model.specs.Serve.{lineAt, memoryAfter, replyTo}
 use Rattle.model.specs.Take.{entryFor, taken}
 
 -- refused unless the test passes
@@ -114,7 +114,7 @@ arrivedMemory s p = unless (ltb p (s .up .count)) NothingThere s (done Nothing (
 -- 4 SERVE: memory handles its head and queues the reply
 
 unfoldable pub afterServe : System → Message → System
-afterServe s m = withNets (withMemory s (memoryAfter (s .memory) m)) (s .up) (netRest (s .arrived) 0) (netPut (s .served) (replyTo (s .memory) m)) (s .down)
+afterServe s m = withNets (withMemory s (memoryAfter (s .memory) m)) (s .up) (netRest (s .arrived) 0) (netPut (s .served) (replyTo (lineAt (s .memory) (m .line)) m)) (s .down)
 
 unfoldable pub serveStep : System → After
 serveStep s = unless (ltb 0 (s .arrived .count)) NothingThere s (done Nothing (afterServe s (netAt (s .arrived) 0)))

@@ -42,9 +42,9 @@ module _ (s : System) (h : Sound s) (i : ℕ) (l : i < s .sizes .sites) (k : 0 <
   put : Put s s′ i x′
   put = put-sent s (h .four) i (below-four s h i l) (x .outgoing)
 
-  room : s .up .count < s .sizes .pend * s .sizes .sites
+  pub send-room : s .up .count < s .sizes .pend * s .sizes .sites
   unfolding messageCount
-  room = omega (arith, k, count-most s h, sum-at 4 (λ j. queued (siteAt s j)) i (below-four s h i l))
+  send-room = omega (arith, k, count-most s h, sum-at 4 (λ j. queued (siteAt s j)) i (below-four s h i l))
 
   rest-ready : Ready (s .sizes) i x′
   rest-ready = record {
@@ -62,7 +62,7 @@ module _ (s : System) (h : Sound s) (i : ℕ) (l : i < s .sizes .sites) (k : 0 <
         arith,
         put-sum s s′ i x′ put (inSite f) (below-four s h i l),
         own-loses (s .sizes) request i (x .outgoing) (ready s h i l .out) f k,
-        net-gains (s .sizes) request (s .up) (h .up) f (siteHead (x .outgoing)) room (net-places s h),
+        net-gains (s .sizes) request (s .up) (h .up) f (siteHead (x .outgoing)) send-room (net-places s h),
       )
 
   pub send-sound : Sound s′
@@ -73,7 +73,7 @@ module _ (s : System) (h : Sound s) (i : ℕ) (l : i < s .sizes .sites) (k : 0 <
     four = put .four;
     sites = put-ok s s′ i x′ put l (ready-close (s .sizes) i x′ rest-ready) (h .sites);
     up =
-        net-put (s .sizes) request (s .up) (h .up) (siteHead (x .outgoing)) room (net-places s h)
+        net-put (s .sizes) request (s .up) (h .up) (siteHead (x .outgoing)) send-room (net-places s h)
         (and-l (messageFits (s .sizes) request (siteHead (x .outgoing))) _ (own-head (s .sizes) request i (x .outgoing) (ready s h i l .out) k));
     arrived = h .arrived;
     served = h .served;
@@ -96,7 +96,7 @@ same-four s s′ f a b c d e = record {
 -- ARRIVE-MEMORY
 
 module _ (s : System) (h : Sound s) (p : ℕ) (l : p < s .up .count) where
-  arrive-room : s .arrived .count < s .sizes .pend * s .sizes .sites
+  pub arrive-room : s .arrived .count < s .sizes .pend * s .sizes .sites
   unfolding messageCount
   arrive-room = omega (arith, l, count-most s h)
 
@@ -126,7 +126,7 @@ module _ (s : System) (h : Sound s) (p : ℕ) (l : p < s .up .count) where
 -- SEND-BACK
 
 module _ (s : System) (h : Sound s) (l : 0 < s .served .count) where
-  back-room : s .down .count < s .sizes .pend * s .sizes .sites
+  pub back-room : s .down .count < s .sizes .pend * s .sizes .sites
   unfolding messageCount
   back-room = omega (arith, l, count-most s h)
 
@@ -176,7 +176,7 @@ module _ (s : System) (h : Sound s) (p : ℕ) (l : p < s .down .count) where
   reached-site = let t = fine in ltb→lt (m .site) (s .sizes .sites) (search (and-l, and-r))
 
   -- it is one of its site's messages, so there is room
-  reach-room : y .incoming .count < s .sizes .pend
+  pub reach-room : y .incoming .count < s .sizes .pend
   reach-room =
       omega (
         arith,

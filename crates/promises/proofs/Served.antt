@@ -17,7 +17,7 @@ use Rattle.model.specs.Kinds.{fetch, writeBack}
 use Rattle.model.specs.Parts.{netAt, pastLine}
 use Rattle.model.specs.Sets.{wordsFit, marksFit}
 use Rattle.model.specs.Sound.{request, reply, carries, messageFits, memoryFits}
-use Rattle.model.specs.Serve.{merged, lineAt, memoryAfter, replyTo}
+use Rattle.model.specs.Serve.{merged, lineAt, stored, memoryAfter, replyTo}
 use Rattle.model.specs.Steps.{afterServe}
 use Rattle.promises.proofs.Balance.{total, isAt}
 use Rattle.promises.proofs.Queues.{net-at, net-put, net-rest, net-gains, net-loses}
@@ -95,12 +95,12 @@ module _ (z : Sizes) (mem : List Line) (u : T (memoryFits z mem)) (m : Message) 
   unfolding memoryAfter memoryFits
   memory-kept =
       by-cond (λ (l : List Line). T (array 16 inUse notInUse (z .lines) l)) (eqb (m .kind) fetch) _ _ (λ t. u)
-      (λ t. array-set 16 inUse notInUse (z .lines) mem u (m .line) (record { values = merged (lineAt mem (m .line) .values) (m .values) (m .dirty) })
+      (λ t. array-set 16 inUse notInUse (z .lines) mem u (m .line) (stored (lineAt mem (m .line)) m)
       (ltb→lt (m .line) (z .lines) m-line)
       (merged-words (z .words) (lineAt mem (m .line) .values) (m .values) (m .dirty) line-words
       (write-words z (m .kind) (m .values) (m .dirty) (other-request (m .kind) m-kind (ne-of (m .kind) fetch t)) m-carries)))
 
-  reply-fits : T (messageFits z reply (replyTo mem m))
+  reply-fits : T (messageFits z reply (replyTo (lineAt mem (m .line)) m))
   unfolding replyTo messageFits carries wordsFit marksFit array fits
   reply-fits =
       by-cond (λ (r : Message). T (messageFits z reply r)) (eqb (m .kind) fetch) _ _
@@ -109,7 +109,7 @@ module _ (z : Sizes) (mem : List Line) (u : T (memoryFits z mem)) (m : Message) 
       (both (wordsFit (z .words) (lineAt mem (m .line) .values)) _ w tt))
       (λ t. both (ltb (m .site) (z .sites) && ltb (m .line) (z .lines)) _ (both (ltb (m .site) (z .sites)) _ m-site m-line) tt)
 
-  same-trip : (i : ℕ) (f : ℕ → ℕ → Bool) → ind (isAt i f (replyTo mem m)) ≡ ind (isAt i f m)
+  same-trip : (i : ℕ) (f : ℕ → ℕ → Bool) → ind (isAt i f (replyTo (lineAt mem (m .line)) m)) ≡ ind (isAt i f m)
   unfolding replyTo
   same-trip i f =
       by-cond (λ (r : Message). ind (isAt i f r) ≡ ind (isAt i f m)) (eqb (m .kind) fetch) _ _
@@ -124,33 +124,33 @@ module _ (s : System) (h : Sound s) (l : 0 < s .arrived .count) where
   abbrev s′ : System
   s′ = afterServe s m₀
 
-  head-fits : T (messageFits (s .sizes) request m₀)
-  head-fits = net-at (s .sizes) request (s .arrived) (h .arrived) 0 l
+  pub request-fits : T (messageFits (s .sizes) request m₀)
+  request-fits = net-at (s .sizes) request (s .arrived) (h .arrived) 0 l
 
-  room : s .served .count < s .sizes .pend * s .sizes .sites
+  pub serve-room : s .served .count < s .sizes .pend * s .sizes .sites
   unfolding messageCount
-  room = omega (arith, l, count-most s h)
+  serve-room = omega (arith, l, count-most s h)
 
   pub serve-counts : (i : ℕ) (f : ℕ → ℕ → Bool) → total (isAt i f) s′ ≡ total (isAt i f) s
   unfolding total afterServe
   serve-counts i f =
       omega (
         arith,
-        same-trip (s .sizes) (s .memory) (h .memory) m₀ head-fits i f,
+        same-trip (s .sizes) (s .memory) (h .memory) m₀ request-fits i f,
         net-loses (s .sizes) request (s .arrived) (h .arrived) (isAt i f) 0 l,
-        net-gains (s .sizes) reply (s .served) (h .served) (isAt i f) (replyTo (s .memory) m₀) room (net-places s h),
+        net-gains (s .sizes) reply (s .served) (h .served) (isAt i f) (replyTo (lineAt (s .memory) (m₀ .line)) m₀) serve-room (net-places s h),
       )
 
   pub serve-sound : Sound s′
   unfolding afterServe
   serve-sound = record {
     sizes = h .sizes;
-    memory = memory-kept (s .sizes) (s .memory) (h .memory) m₀ head-fits;
+    memory = memory-kept (s .sizes) (s .memory) (h .memory) m₀ request-fits;
     four = same-four s s′ (h .four) refl refl refl refl refl;
     sites = h .sites;
     up = h .up;
     arrived = net-rest (s .sizes) request (s .arrived) (h .arrived) 0 l;
-    served = net-put (s .sizes) reply (s .served) (h .served) (replyTo (s .memory) m₀) room (net-places s h) (reply-fits (s .sizes) (s .memory) (h .memory) m₀ head-fits);
+    served = net-put (s .sizes) reply (s .served) (h .served) (replyTo (lineAt (s .memory) (m₀ .line)) m₀) serve-room (net-places s h) (reply-fits (s .sizes) (s .memory) (h .memory) m₀ request-fits);
     down = h .down;
     balance = moved-balance s s′ refl serve-counts (λ j. refl) (λ j. refl) (h .balance);
   }

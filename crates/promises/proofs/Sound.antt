@@ -183,53 +183,57 @@ module _ (s : System) (m : Limits (s .sizes)) (ok : (i : ℕ) → i < 4 → T (s
       (rw (cond-F (ltb i (s .sizes .sites)) (siteFits (s .sizes) i (siteAt s i)) (freeSite (siteAt s i))
       (not-T (ltb i (s .sizes .sites)) (λ u. omega (arith, ltb→lt i (s .sizes .sites) u)))) at (ok i l))
 
--- EACH MESSAGE UNDER WAY IS OF A SITE OF THE SYSTEM
+-- WHAT EACH MESSAGE THAT FITS PASSES EACH MESSAGE UNDER WAY PASSES
 
-module _ (s : System) (m : Limits (s .sizes)) (ok : (i : ℕ) → i < 4 → T (siteOk (s .sizes) i (siteAt s i))) where
-  abbrev Sited : Message → Bool
-  Sited y = ltb (y .site) (s .sizes .sites)
-
-  fits-sited : (side : ℕ → Bool) (y : Message) → T (messageFits (s .sizes) side y) → T (Sited y)
-  unfolding messageFits
-  fits-sited side y t = search (and-l, and-r)
-
-  net-sited : (side : ℕ → Bool) (q : Queue) → NetFits (s .sizes) side q → T (each Sited (take (q .count) (q .items)))
-  net-sited side q t =
-      each-map (messageFits (s .sizes) side) Sited (fits-sited side) (take (q .count) (q .items))
+module _ (s : System) (m : Limits (s .sizes)) (ok : (i : ℕ) → i < 4 → T (siteOk (s .sizes) i (siteAt s i)))
+    (good : Message → Bool) (fine : (side : ℕ → Bool) (y : Message) → T (messageFits (s .sizes) side y) → T (good y)) where
+  net-good : (side : ℕ → Bool) (q : Queue) → NetFits (s .sizes) side q → T (each good (take (q .count) (q .items)))
+  net-good side q t =
+      each-map (messageFits (s .sizes) side) good (fine side) (take (q .count) (q .items))
       (each-take (messageFits (s .sizes) side) freeMessage (q .count) (q .items)
       (queue-fits 20 (s .sizes .pend * s .sizes .sites) (messageFits (s .sizes) side) (q .count) (q .items) t))
 
-  none-sited : (n : ℕ) (ys : List Message) → n ≡ 0 → T (each Sited (take n ys))
+  none-good : (n : ℕ) (ys : List Message) → n ≡ 0 → T (each good (take n ys))
   unfolding each
-  none-sited n ys e = rw e tt
+  none-good n ys e = rw e tt
 
-  own-sited : (i : ℕ) (l : i < s .sizes .sites) (side : ℕ → Bool) (n : ℕ) (ys : List Message) → T (queueFits 5 (s .sizes .pend) (ofSite (s .sizes) side i) n ys) → T (each Sited (take n ys))
-  own-sited i l side n ys t =
-      each-map (ofSite (s .sizes) side i) Sited (λ y u. fits-sited side y (and-l (messageFits (s .sizes) side y) _ u)) (take n ys)
+  own-good : (i : ℕ) (l : i < s .sizes .sites) (side : ℕ → Bool) (n : ℕ) (ys : List Message) → T (queueFits 5 (s .sizes .pend) (ofSite (s .sizes) side i) n ys) → T (each good (take n ys))
+  own-good i l side n ys t =
+      each-map (ofSite (s .sizes) side i) good (λ y u. fine side y (and-l (messageFits (s .sizes) side y) _ u)) (take n ys)
       (each-take (ofSite (s .sizes) side i) freeMessage n ys (queue-fits 5 (s .sizes .pend) (ofSite (s .sizes) side i) n ys t))
 
-  site-sited : (i : ℕ) → i < 4 → T (each Sited (siteMessages (siteAt s i)))
+  site-good : (i : ℕ) → i < 4 → T (each good (siteMessages (siteAt s i)))
   unfolding siteQueueFits
-  site-sited i l =
+  site-good i l =
       by-test (ltb i (s .sizes .sites))
       (λ u. let k : i < s .sizes .sites = ltb→lt i (s .sizes .sites) u in
       let r : Ready (s .sizes) i (siteAt s i) = ready-at s m ok i k in
-      each-append Sited (take (siteAt s i .outgoing .count) (siteAt s i .outgoing .items)) (take (siteAt s i .incoming .count) (siteAt s i .incoming .items))
-      (own-sited i k request (siteAt s i .outgoing .count) (siteAt s i .outgoing .items) (r .out))
-      (own-sited i k reply (siteAt s i .incoming .count) (siteAt s i .incoming .items) (r .inc)))
+      each-append good (take (siteAt s i .outgoing .count) (siteAt s i .outgoing .items)) (take (siteAt s i .incoming .count) (siteAt s i .incoming .items))
+      (own-good i k request (siteAt s i .outgoing .count) (siteAt s i .outgoing .items) (r .out))
+      (own-good i k reply (siteAt s i .incoming .count) (siteAt s i .incoming .items) (r .inc)))
       (λ u. let v = vacant-at s m ok i l (nltb→le i (s .sizes .sites) u) in
-      each-append Sited (take (siteAt s i .outgoing .count) (siteAt s i .outgoing .items)) (take (siteAt s i .incoming .count) (siteAt s i .incoming .items))
-      (none-sited (siteAt s i .outgoing .count) (siteAt s i .outgoing .items) (v .outgoing))
-      (none-sited (siteAt s i .incoming .count) (siteAt s i .incoming .items) (v .incoming)))
+      each-append good (take (siteAt s i .outgoing .count) (siteAt s i .outgoing .items)) (take (siteAt s i .incoming .count) (siteAt s i .incoming .items))
+      (none-good (siteAt s i .outgoing .count) (siteAt s i .outgoing .items) (v .outgoing))
+      (none-good (siteAt s i .incoming .count) (siteAt s i .incoming .items) (v .incoming)))
 
-  pub all-sited : NetFits (s .sizes) request (s .up) → NetFits (s .sizes) request (s .arrived) → NetFits (s .sizes) reply (s .served) → NetFits (s .sizes) reply (s .down) →
-      T (each Sited (underWay s))
+  pub all-good : NetFits (s .sizes) request (s .up) → NetFits (s .sizes) request (s .arrived) → NetFits (s .sizes) reply (s .served) → NetFits (s .sizes) reply (s .down) →
+      T (each good (underWay s))
   unfolding underWay
-  all-sited u a v d =
-      each-append Sited (allOf 4 (λ i. siteMessages (siteAt s i))) _ (each-allOf Sited 4 (λ i. siteMessages (siteAt s i)) site-sited)
-      (each-append Sited (take (s .up .count) (s .up .items)) _ (net-sited request (s .up) u)
-      (each-append Sited (take (s .arrived .count) (s .arrived .items)) _ (net-sited request (s .arrived) a)
-      (each-append Sited (take (s .served .count) (s .served .items)) _ (net-sited reply (s .served) v) (net-sited reply (s .down) d))))
+  all-good u a v d =
+      each-append good (allOf 4 (λ i. siteMessages (siteAt s i))) _ (each-allOf good 4 (λ i. siteMessages (siteAt s i)) site-good)
+      (each-append good (take (s .up .count) (s .up .items)) _ (net-good request (s .up) u)
+      (each-append good (take (s .arrived .count) (s .arrived .items)) _ (net-good request (s .arrived) a)
+      (each-append good (take (s .served .count) (s .served .items)) _ (net-good reply (s .served) v) (net-good reply (s .down) d))))
+
+-- each message under way is of a site of the system
+module _ (s : System) (m : Limits (s .sizes)) (ok : (i : ℕ) → i < 4 → T (siteOk (s .sizes) i (siteAt s i))) where
+  pub all-sited : NetFits (s .sizes) request (s .up) → NetFits (s .sizes) request (s .arrived) → NetFits (s .sizes) reply (s .served) → NetFits (s .sizes) reply (s .down) →
+      T (each (λ y. ltb (y .site) (s .sizes .sites)) (underWay s))
+  unfolding messageFits
+  all-sited = all-good s m ok (λ y. ltb (y .site) (s .sizes .sites)) sited
+    where
+      sited : (side : ℕ → Bool) (y : Message) → T (messageFits (s .sizes) side y) → T (ltb (y .site) (s .sizes .sites))
+      sited side y t = search (and-l, and-r)
 
 -- OPENED AND CLOSED
 
