@@ -58,16 +58,22 @@ pub record Site : Type 0 where
   pub outgoing : SiteQueue
   pub incoming : SiteQueue
 
-abbrev pub siteAt : System → ℕ → Site
-siteAt s i = record {
-  cache = getD (s .caches) i pastCache .sets;
-  pends = getD (s .pends) i pastPends .count;
-  entries = getD (s .pends) i pastPends .entries;
-  stalls = getD (s .stalls) i pastStalls .count;
-  waiting = getD (s .stalls) i pastStalls .waiting;
-  outgoing = getD (s .outgoing) i pastSiteQueue;
-  incoming = getD (s .incoming) i pastSiteQueue;
+-- a site of its parts
+abbrev pub siteFrom : Cache → Pends → Stalls → SiteQueue → SiteQueue → Site
+siteFrom c p t out inc = record {
+  cache = c .sets;
+  pends = p .count;
+  entries = p .entries;
+  stalls = t .count;
+  waiting = t .waiting;
+  outgoing = out;
+  incoming = inc;
 }
+
+abbrev pub siteAt : System → ℕ → Site
+siteAt s i =
+    siteFrom (getD (s .caches) i pastCache) (getD (s .pends) i pastPends) (getD (s .stalls) i pastStalls)
+    (getD (s .outgoing) i pastSiteQueue) (getD (s .incoming) i pastSiteQueue)
 
 abbrev pub putSite : System → ℕ → Site → System
 putSite s i x = record {

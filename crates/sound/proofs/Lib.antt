@@ -1,0 +1,4 @@
+pub mod Tags
+pub mod Once
+pub mod Table
+pub mod Pairing

@@ -1,0 +1,33 @@
+use mathlib.Core.Path.{sym}
+use lib.Dec.{eqb}
+use borrow.Author.Needs.{needs}
+use Rattle.lists.proofs.Turns.{array-four}
+use Rattle.model.specs.Sets.{wordsFit}
+use Rattle.sound.proofs.words.words_fit.Statement.{statement}
+use Rattle.sound.proofs.words.words_fit.Tie as tie
+
+array-read-result : tie.Need-array-read-result
+array-read-result c = search needs
+
+array-read-result-2 : tie.Need-array-read-result-2
+array-read-result-2 c = search needs
+
+array-read-result-3 : tie.Need-array-read-result-3
+array-read-result-3 c = search needs
+
+array-read-result-4 : tie.Need-array-read-result-4
+array-read-result-4 c = search needs
+
+returns : tie.Need-returns
+unfolding wordsFit
+returns c = sym (array-four (λ v. eqb v 0) (c .args .n) (c .args .t2) 0 (search needs))
+
+pub words-fit-spec : {M : Type 1} → statement M
+words-fit-spec =
+    tie.close
+    (tie.spec
+    array-read-result
+    array-read-result-2
+    array-read-result-3
+    array-read-result-4
+    returns)

@@ -1,0 +1,4 @@
+pub mod Sides
+pub mod Sites
+pub mod Fitting
+pub mod Naming
