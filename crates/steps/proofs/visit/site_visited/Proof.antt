@@ -1,0 +1,59 @@
+use Rattle.steps.specs.View.{siteVisited}
+use Rattle.model.specs.declared.Step.the-variants.{Issue, Retry, Send, ArriveMemory, Serve, SendBack, ArriveSite, Take}
+use Rattle.model.specs.declared.Step.{Step}
+use Rattle.model.proofs.Step as T
+use denote.Enum.Declared.{tagOf}
+use types.Run.{OneOf, miss}
+use mathlib.Core.List.{[], _∷_}
+use mathlib.Core.Path.{_≡_, refl}
+use borrow.Author.Needs.{needs}
+use Rattle.steps.proofs.visit.site_visited.Statement.{statement}
+use Rattle.steps.proofs.visit.site_visited.Tie as tie
+
+enum-known-step : tie.Need-enum-known-step
+enum-known-step c = search needs
+
+enum-known-step-2 : tie.Need-enum-known-step-2
+enum-known-step-2 c = search needs
+
+enum-known-step-3 : tie.Need-enum-known-step-3
+enum-known-step-3 c = search needs
+
+returns : tie.Need-returns
+unfolding siteVisited
+returns c = rw (c .before .step .given .1)
+
+returns-2 : tie.Need-returns-2
+unfolding siteVisited
+returns-2 c = rw (c .before .step2 .given .1)
+
+returns-3 : tie.Need-returns-3
+unfolding siteVisited
+returns-3 c = rw (c .before .step3 .given .1)
+
+-- no such step
+other : (t : Step) → OneOf (2 ∷ 3 ∷ 4 ∷ 5 ∷ 6 ∷ []) (tagOf T.the-type t) → 0 ≡ siteVisited t
+unfolding siteVisited
+other (Issue i u n) k = absurd (miss (2 ∷ 3 ∷ 4 ∷ 5 ∷ 6 ∷ []) 0 tt k)
+other (Retry i) k = absurd (miss (2 ∷ 3 ∷ 4 ∷ 5 ∷ 6 ∷ []) 1 tt k)
+other (Send i) k = refl
+other (ArriveMemory p) k = refl
+other Serve k = refl
+other SendBack k = refl
+other (ArriveSite p) k = refl
+other (Take i) k = absurd (miss (2 ∷ 3 ∷ 4 ∷ 5 ∷ 6 ∷ []) 7 tt k)
+
+returns-4 : tie.Need-returns-4
+returns-4 c = other (c .before .args .step) (c .match .keys4)
+
+pub site-visited-spec : {M : Type 1} → statement M
+site-visited-spec =
+    tie.close
+    (tie.spec
+    enum-known-step
+    enum-known-step-2
+    enum-known-step-3
+    returns
+    returns-2
+    returns-3
+    returns-4)
