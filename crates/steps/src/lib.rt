@@ -74,9 +74,8 @@ pub fn step_sound(mut s: System, x: Step) -> After
                             system: s,
                         };
                     };
-                    let from = s.down;
-                    let to = s.incoming;
-                    let h = reach(from, position, to);
+                    let incoming = s.incoming;
+                    let h = reach(s.down, position, incoming);
                     let down = h.down;
                     s.down = down;
                     let incoming = h.incoming;
@@ -87,9 +86,7 @@ pub fn step_sound(mut s: System, x: Step) -> After
                         system: s,
                     };
                 };
-                let from = s.served;
-                let to = s.down;
-                let h = hop(from, 0, to);
+                let h = hop(s.served, 0, s.down);
                 let served = h.from;
                 s.served = served;
                 let down = h.to;
@@ -101,9 +98,7 @@ pub fn step_sound(mut s: System, x: Step) -> After
                 };
             };
             let memory = s.memory;
-            let from = s.arrived;
-            let to = s.served;
-            let h = serve(memory, from, to);
+            let h = serve(memory, s.arrived, s.served);
             let memory = h.memory;
             s.memory = memory;
             let arrived = h.arrived;
@@ -116,9 +111,7 @@ pub fn step_sound(mut s: System, x: Step) -> After
                 system: s,
             };
         };
-        let from = s.up;
-        let to = s.arrived;
-        let h = hop(from, position, to);
+        let h = hop(s.up, position, s.arrived);
         let up = h.from;
         s.up = up;
         let arrived = h.to;
@@ -129,9 +122,8 @@ pub fn step_sound(mut s: System, x: Step) -> After
             system: s,
         };
     };
-    let from = s.outgoing;
-    let to = s.up;
-    let h = send(s.sizes.sites, site, from, to);
+    let outgoing = s.outgoing;
+    let h = send(s.sizes.sites, site, outgoing, s.up);
     let outgoing = h.outgoing;
     s.outgoing = outgoing;
     let up = h.up;
@@ -144,7 +136,7 @@ pub fn step_sound(mut s: System, x: Step) -> After
 }
 
 // A step of any state: one that is not sound is refused with 1.
-pub fn take_step(s: System, x: Step) -> After
+pub fn step(s: System, x: Step) -> After
     ensures { λ r. ⌜ r ≡ stepped s x ⌝ }
 {
     if !is_sound(s) {

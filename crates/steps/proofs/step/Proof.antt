@@ -2,8 +2,8 @@ use Rattle.model.specs.Steps.{stepped}
 use borrow.Author.Tests.{not-true, not-false}
 use mathlib.Core.Path.{sym, _∙_}
 use borrow.Author.Needs.{needs}
-use Rattle.steps.proofs.take_step.Statement.{statement}
-use Rattle.steps.proofs.take_step.Tie as tie
+use Rattle.steps.proofs.step.Statement.{statement}
+use Rattle.steps.proofs.step.Tie as tie
 
 is-sound-requires : tie.Need-is-sound-requires
 is-sound-requires c κs = search needs
@@ -19,5 +19,5 @@ returns-2 : tie.Need-returns-2
 unfolding stepped
 returns-2 c = rw (sym (c .before .before .is-sound .ensures) ∙ not-false _ (c .before .if1 .left)) (c .step-sound .ensures)
 
-pub take-step-spec : {M : Type 1} → statement M
-take-step-spec = tie.close (tie.spec is-sound-requires returns step-sound-requires returns-2)
+pub step-spec : {M : Type 1} → statement M
+step-spec = tie.close (tie.spec is-sound-requires returns step-sound-requires returns-2)
