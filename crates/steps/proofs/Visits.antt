@@ -4,13 +4,12 @@ use mathlib.Core.List.{[], _∷_}
 use mathlib.Core.Bool.{true, false}
 use Prim.Native.Nat.{ℕ, _≤_, _<_}
 use native.Mathlib.Omega.{arith}
+use borrow.Author.Tests.{lt-ltb, le-ltb}
 use lib.Dec.{T, ltb, ltb→lt}
 use lib.ListN.{getD}
 use lib.Seq.{set-getD}
 use types.Run.{OneOf, miss}
 use denote.Enum.Declared.{tagOf}
-use Rattle.model.proofs.Step as T
-use borrow.Author.Tests.{lt-ltb, le-ltb}
 use Rattle.lists.proofs.Tests.{and-l, and-r}
 use Rattle.lists.proofs.Places.{array-at}
 use Rattle.model.specs.declared.Sizes.{Sizes}
@@ -34,12 +33,13 @@ use Rattle.model.specs.Sound.{waitingFits, entryFits, freeWaiting, freeEntry, s
 use Rattle.model.specs.Take.{entryFor, taken}
 use Rattle.model.specs.Handling.{placeOf, factsOf, decided, performed, mustWait}
 use Rattle.model.specs.Steps.{unless, handledAt, issued, issuedAt, retried, took, stepOf, stalledAt, entered, enteredAt, unstalled, resumed, resumedAt, takenAt, tookAt}
-use Rattle.rules.specs.declared.issue.Apart.{Apart}
-use Rattle.rules.specs.Apart.{apartOf}
+use Rattle.model.proofs.Step as T
 use Rattle.promises.proofs.Sound.{Sound, opened}
 use Rattle.promises.proofs.Room.{ready, site-room}
 use Rattle.promises.proofs.Took.{entry-below}
 use Rattle.promises.proofs.Rows.{Row, load-hit, store-hit, fetches, not-cached, commit-clean, reconcile-dirty, drops, writes-kept, writes-dropped, waits-full, waits-pending, row}
+use Rattle.rules.specs.declared.issue.Apart.{Apart}
+use Rattle.rules.specs.Apart.{apartOf}
 use Rattle.steps.specs.declared.here.Here.{Here}
 use Rattle.steps.specs.declared.here.Made.{Made}
 use Rattle.steps.specs.declared.visit.Choice.{Choice}

@@ -1,13 +1,13 @@
-use Rattle.steps.proofs.Carries.{arrives, goes-back, net-most, room-to-send, room-to-arrive, room-to-serve, line-served, room-to-go-back, site-reached, room-to-reach}
-use Rattle.steps.proofs.Visits.{step-visits, sound-open, fit}
-use Rattle.steps.specs.Carried.{arrivedOf, backOf}
-use Rattle.promises.proofs.Room.{the-limits}
+use mathlib.Core.Path.{refl, ap, sym, _∙_}
+use native.Mathlib.Omega.{arith}
+use borrow.Author.Tests.{lt-ltb, le-ltb}
+use borrow.Author.Needs.{needs}
 use Rattle.model.specs.Steps.{stepOf}
 use Rattle.model.specs.Sound.{request, reply}
-use borrow.Author.Tests.{lt-ltb, le-ltb}
-use native.Mathlib.Omega.{arith}
-use mathlib.Core.Path.{refl, ap, sym, _∙_}
-use borrow.Author.Needs.{needs}
+use Rattle.promises.proofs.Room.{the-limits}
+use Rattle.steps.specs.Carried.{arrivedOf, backOf}
+use Rattle.steps.proofs.Carries.{arrives, goes-back, net-most, room-to-send, room-to-arrive, room-to-serve, line-served, room-to-go-back, site-reached, room-to-reach}
+use Rattle.steps.proofs.Visits.{step-visits, sound-open, fit}
 use Rattle.steps.proofs.step_sound.Statement.{statement}
 use Rattle.steps.proofs.step_sound.Tie as tie
 
@@ -33,7 +33,9 @@ cast-if1 : tie.Need-cast-if1
 cast-if1 c = search needs
 
 returns : tie.Need-returns
-returns c = sym (step-visits (c .before .before .before .before .before .before .before .before .before .args .t1) (c .before .before .before .before .before .before .before .before .before .args .x) (c .before .before .before .before .before .before .before .before .match .keys2) (c .before .before .before .before .before .before .before .match2 .keys2) (c .before .before .before .before .before .before .match3 .keys2) (c .before .before .before .before .before .match4 .keys2) (c .before .before .before .before .match5 .keys2) ∙
+returns c =
+    let args = c .before .before .before .before .before .before .before .before .before .args in
+    sym (step-visits (args .t1) (args .x) (c .before .before .before .before .before .before .before .before .match .keys2) (c .before .before .before .before .before .before .before .match2 .keys2) (c .before .before .before .before .before .before .match3 .keys2) (c .before .before .before .before .before .match4 .keys2) (c .before .before .before .before .match5 .keys2) ∙
     rw (rw (c .before .before .site-visited .ensures) at (le-ltb _ _ (c .if1 .taken))))
 
 cast-k : tie.Need-cast-k
@@ -43,105 +45,159 @@ mul-cache : tie.Need-mul-cache
 mul-cache c = search needs
 
 element-copy-out-cache : tie.Need-element-copy-out-cache
-element-copy-out-cache c = omega (arith, c .if1 .left, the-limits (c .before .before .before .before .before .before .before .before .before .args .t1) (sound-open (c .before .before .before .before .before .before .before .before .before .args .t1) (c .before .before .before .before .before .before .before .before .before .pre)) .sites-most)
+element-copy-out-cache c =
+    let start = c .before .before .before .before .before .before .before .before .before in
+    let args = start .args in
+    omega (arith, c .if1 .left, the-limits (args .t1) (sound-open (args .t1) (start .pre)) .sites-most)
 
 mul-pends : tie.Need-mul-pends
 mul-pends c = search needs
 
 element-copy-out-pends : tie.Need-element-copy-out-pends
-element-copy-out-pends c = omega (arith, c .before .if1 .left, the-limits (c .before .before .before .before .before .before .before .before .before .before .args .t1) (sound-open (c .before .before .before .before .before .before .before .before .before .before .args .t1) (c .before .before .before .before .before .before .before .before .before .before .pre)) .sites-most)
+element-copy-out-pends c =
+    let start = c .before .before .before .before .before .before .before .before .before .before in
+    let args = start .args in
+    omega (arith, c .before .if1 .left, the-limits (args .t1) (sound-open (args .t1) (start .pre)) .sites-most)
 
 mul-stalls : tie.Need-mul-stalls
 mul-stalls c = search needs
 
 element-copy-out-stalls : tie.Need-element-copy-out-stalls
-element-copy-out-stalls c = omega (arith, c .before .before .if1 .left, the-limits (c .before .before .before .before .before .before .before .before .before .before .before .args .t1) (sound-open (c .before .before .before .before .before .before .before .before .before .before .before .args .t1) (c .before .before .before .before .before .before .before .before .before .before .before .pre)) .sites-most)
+element-copy-out-stalls c =
+    let start = c .before .before .before .before .before .before .before .before .before .before .before in
+    let args = start .args in
+    omega (arith, c .before .before .if1 .left, the-limits (args .t1) (sound-open (args .t1) (start .pre)) .sites-most)
 
 mul-outgoing : tie.Need-mul-outgoing
 mul-outgoing c = search needs
 
 element-copy-out-outgoing : tie.Need-element-copy-out-outgoing
-element-copy-out-outgoing c = omega (arith, c .before .before .before .if1 .left, the-limits (c .before .before .before .before .before .before .before .before .before .before .before .before .args .t1) (sound-open (c .before .before .before .before .before .before .before .before .before .before .before .before .args .t1) (c .before .before .before .before .before .before .before .before .before .before .before .before .pre)) .sites-most)
+element-copy-out-outgoing c =
+    let start = c .before .before .before .before .before .before .before .before .before .before .before .before in
+    let args = start .args in
+    omega (arith, c .before .before .before .if1 .left, the-limits (args .t1) (sound-open (args .t1) (start .pre)) .sites-most)
 
 mul-incoming : tie.Need-mul-incoming
 mul-incoming c = search needs
 
 element-copy-out-incoming : tie.Need-element-copy-out-incoming
-element-copy-out-incoming c = omega (arith, c .before .before .before .before .if1 .left, the-limits (c .before .before .before .before .before .before .before .before .before .before .before .before .before .args .t1) (sound-open (c .before .before .before .before .before .before .before .before .before .before .before .before .before .args .t1) (c .before .before .before .before .before .before .before .before .before .before .before .before .before .pre)) .sites-most)
+element-copy-out-incoming c =
+    let start = c .before .before .before .before .before .before .before .before .before .before .before .before .before in
+    let args = start .args in
+    omega (arith, c .before .before .before .before .if1 .left, the-limits (args .t1) (sound-open (args .t1) (start .pre)) .sites-most)
 
 cast-visit : tie.Need-cast-visit
 cast-visit c = search needs
 
 visit-requires : tie.Need-visit-requires
-visit-requires c κs = fit (c .before .before .before .before .before .before .before .before .before .before .before .before .before .before .args .t1) (sound-open (c .before .before .before .before .before .before .before .before .before .before .before .before .before .before .args .t1) (c .before .before .before .before .before .before .before .before .before .before .before .before .before .before .pre)) (c .before .before .before .before .before .before .before .site-visited .result) (c .before .before .before .before .before .if1 .left)
+visit-requires c κs =
+    let start = c .before .before .before .before .before .before .before .before .before .before .before .before .before .before in
+    let args = start .args in
+    fit (args .t1) (sound-open (args .t1) (start .pre)) (c .before .before .before .before .before .before .before .site-visited .result) (c .before .before .before .before .before .if1 .left)
 
 mul-cache-2 : tie.Need-mul-cache-2
 mul-cache-2 c = search needs
 
 element-set-from-cache : tie.Need-element-set-from-cache
-element-set-from-cache c = omega (arith, c .before .before .before .before .before .before .before .before .if1 .left, the-limits (c .before .before .before .before .before .before .before .before .before .before .before .before .before .before .before .before .before .args .t1) (sound-open (c .before .before .before .before .before .before .before .before .before .before .before .before .before .before .before .before .before .args .t1) (c .before .before .before .before .before .before .before .before .before .before .before .before .before .before .before .before .before .pre)) .sites-most)
+element-set-from-cache c =
+    let start = c .before .before .before .before .before .before .before .before .before .before .before .before .before .before .before .before .before in
+    let args = start .args in
+    omega (arith, c .before .before .before .before .before .before .before .before .if1 .left, the-limits (args .t1) (sound-open (args .t1) (start .pre)) .sites-most)
 
 mul-pends-2 : tie.Need-mul-pends-2
 mul-pends-2 c = search needs
 
 element-set-from-pends : tie.Need-element-set-from-pends
-element-set-from-pends c = omega (arith, c .before .before .before .before .before .before .before .before .before .if1 .left, the-limits (c .before .before .before .before .before .before .before .before .before .before .before .before .before .before .before .before .before .before .args .t1) (sound-open (c .before .before .before .before .before .before .before .before .before .before .before .before .before .before .before .before .before .before .args .t1) (c .before .before .before .before .before .before .before .before .before .before .before .before .before .before .before .before .before .before .pre)) .sites-most)
+element-set-from-pends c =
+    let start = c .before .before .before .before .before .before .before .before .before .before .before .before .before .before .before .before .before .before in
+    let args = start .args in
+    omega (arith, c .before .before .before .before .before .before .before .before .before .if1 .left, the-limits (args .t1) (sound-open (args .t1) (start .pre)) .sites-most)
 
 mul-stalls-2 : tie.Need-mul-stalls-2
 mul-stalls-2 c = search needs
 
 element-set-from-stalls : tie.Need-element-set-from-stalls
-element-set-from-stalls c = omega (arith, c .before .before .before .before .before .before .before .before .before .before .if1 .left, the-limits (c .before .before .before .before .before .before .before .before .before .before .before .before .before .before .before .before .before .before .before .args .t1) (sound-open (c .before .before .before .before .before .before .before .before .before .before .before .before .before .before .before .before .before .before .before .args .t1) (c .before .before .before .before .before .before .before .before .before .before .before .before .before .before .before .before .before .before .before .pre)) .sites-most)
+element-set-from-stalls c =
+    let start = c .before .before .before .before .before .before .before .before .before .before .before .before .before .before .before .before .before .before .before in
+    let args = start .args in
+    omega (arith, c .before .before .before .before .before .before .before .before .before .before .if1 .left, the-limits (args .t1) (sound-open (args .t1) (start .pre)) .sites-most)
 
 mul-outgoing-2 : tie.Need-mul-outgoing-2
 mul-outgoing-2 c = search needs
 
 element-set-from-outgoing : tie.Need-element-set-from-outgoing
-element-set-from-outgoing c = omega (arith, c .before .before .before .before .before .before .before .before .before .before .before .if1 .left, the-limits (c .before .before .before .before .before .before .before .before .before .before .before .before .before .before .before .before .before .before .before .before .args .t1) (sound-open (c .before .before .before .before .before .before .before .before .before .before .before .before .before .before .before .before .before .before .before .before .args .t1) (c .before .before .before .before .before .before .before .before .before .before .before .before .before .before .before .before .before .before .before .before .pre)) .sites-most)
+element-set-from-outgoing c =
+    let start = c .before .before .before .before .before .before .before .before .before .before .before .before .before .before .before .before .before .before .before .before in
+    let args = start .args in
+    omega (arith, c .before .before .before .before .before .before .before .before .before .before .before .if1 .left, the-limits (args .t1) (sound-open (args .t1) (start .pre)) .sites-most)
 
 mul-incoming-2 : tie.Need-mul-incoming-2
 mul-incoming-2 c = search needs
 
 element-set-from-incoming : tie.Need-element-set-from-incoming
-element-set-from-incoming c = omega (arith, c .before .before .before .before .before .before .before .before .before .before .before .before .if1 .left, the-limits (c .before .before .before .before .before .before .before .before .before .before .before .before .before .before .before .before .before .before .before .before .before .args .t1) (sound-open (c .before .before .before .before .before .before .before .before .before .before .before .before .before .before .before .before .before .before .before .before .before .args .t1) (c .before .before .before .before .before .before .before .before .before .before .before .before .before .before .before .before .before .before .before .before .before .pre)) .sites-most)
+element-set-from-incoming c =
+    let start = c .before .before .before .before .before .before .before .before .before .before .before .before .before .before .before .before .before .before .before .before .before in
+    let args = start .args in
+    omega (arith, c .before .before .before .before .before .before .before .before .before .before .before .before .if1 .left, the-limits (args .t1) (sound-open (args .t1) (start .pre)) .sites-most)
 
 returns-2 : tie.Need-returns-2
-returns-2 c = c .before .before .before .before .before .before .visit .ensures (c .before .before .before .before .before .before .before .before .before .before .before .before .before .before .before .before .before .before .before .before .before .args .t1) refl refl ∙
-    sym (rw (sym (c .before .before .before .before .before .before .before .before .before .before .before .before .before .before .site-visited .ensures), lt-ltb _ _ (c .before .before .before .before .before .before .before .before .before .before .before .before .if1 .left)) at (step-visits (c .before .before .before .before .before .before .before .before .before .before .before .before .before .before .before .before .before .before .before .before .before .args .t1) (c .before .before .before .before .before .before .before .before .before .before .before .before .before .before .before .before .before .before .before .before .before .args .x) (c .before .before .before .before .before .before .before .before .before .before .before .before .before .before .before .before .before .before .before .before .match .keys2) (c .before .before .before .before .before .before .before .before .before .before .before .before .before .before .before .before .before .before .before .match2 .keys2) (c .before .before .before .before .before .before .before .before .before .before .before .before .before .before .before .before .before .before .match3 .keys2) (c .before .before .before .before .before .before .before .before .before .before .before .before .before .before .before .before .before .match4 .keys2) (c .before .before .before .before .before .before .before .before .before .before .before .before .before .before .before .before .match5 .keys2)))
+returns-2 c =
+    let args = c .before .before .before .before .before .before .before .before .before .before .before .before .before .before .before .before .before .before .before .before .before .args in
+    c .before .before .before .before .before .before .visit .ensures (args .t1) refl refl ∙
+    sym (rw (sym (c .before .before .before .before .before .before .before .before .before .before .before .before .before .before .site-visited .ensures), lt-ltb _ _ (c .before .before .before .before .before .before .before .before .before .before .before .before .if1 .left)) at (step-visits (args .t1) (args .x) (c .before .before .before .before .before .before .before .before .before .before .before .before .before .before .before .before .before .before .before .before .match .keys2) (c .before .before .before .before .before .before .before .before .before .before .before .before .before .before .before .before .before .before .before .match2 .keys2) (c .before .before .before .before .before .before .before .before .before .before .before .before .before .before .before .before .before .before .match3 .keys2) (c .before .before .before .before .before .before .before .before .before .before .before .before .before .before .before .before .before .match4 .keys2) (c .before .before .before .before .before .before .before .before .before .before .before .before .before .before .before .before .match5 .keys2)))
 
 reach-requires : tie.Need-reach-requires
-reach-requires c κs = let h = sound-open (c .before .before .before .before .before .before .before .before .before .args .t1) (c .before .before .before .before .before .before .before .before .before .pre) in
-    (net-most (c .before .before .before .before .before .before .before .before .before .args .t1) h reply _ (h .down), λ l. (site-reached (c .before .before .before .before .before .before .before .before .before .args .t1) h _ l, room-to-reach (c .before .before .before .before .before .before .before .before .before .args .t1) h _ l))
+reach-requires c κs =
+    let start = c .before .before .before .before .before .before .before .before .before in
+    let args = start .args in
+    let h = sound-open (args .t1) (start .pre) in
+    (net-most (args .t1) h reply _ (h .down), λ l. (site-reached (args .t1) h _ l, room-to-reach (args .t1) h _ l))
 
 returns-3 : tie.Need-returns-3
 unfolding stepOf
 returns-3 c = rw (c .before .before .before .before .before .before .x3 .given .1) (c .before .before .reach .ensures (c .before .before .before .before .before .before .before .before .before .before .before .before .args .t1) refl refl)
 
 hop-requires : tie.Need-hop-requires
-hop-requires c κs = let h = sound-open (c .before .before .before .before .before .before .before .args .t1) (c .before .before .before .before .before .before .before .pre) in
-    (net-most (c .before .before .before .before .before .before .before .args .t1) h reply _ (h .served), room-to-go-back (c .before .before .before .before .before .before .before .args .t1) h)
+hop-requires c κs =
+    let start = c .before .before .before .before .before .before .before in
+    let args = start .args in
+    let h = sound-open (args .t1) (start .pre) in
+    (net-most (args .t1) h reply _ (h .served), room-to-go-back (args .t1) h)
 
 returns-4 : tie.Need-returns-4
 unfolding stepOf
-returns-4 c = rw (c .before .before .before .before .before .enum-told2 .given .1) (ap (backOf (c .before .before .before .before .before .before .before .before .before .before .args .t1)) (c .before .before .hop .ensures) ∙ goes-back (c .before .before .before .before .before .before .before .before .before .before .args .t1))
+returns-4 c =
+    let args = c .before .before .before .before .before .before .before .before .before .before .args in
+    rw (c .before .before .before .before .before .enum-told2 .given .1) (ap (backOf (args .t1)) (c .before .before .hop .ensures) ∙ goes-back (args .t1))
 
 serve-requires : tie.Need-serve-requires
-serve-requires c κs = λ l. let h = sound-open (c .before .before .before .before .before .before .before .args .t1) (c .before .before .before .before .before .before .before .pre) in (line-served (c .before .before .before .before .before .before .before .args .t1) h l, room-to-serve (c .before .before .before .before .before .before .before .args .t1) h l)
+serve-requires c κs =
+    let start = c .before .before .before .before .before .before .before in
+    let args = start .args in
+    λ l. let h = sound-open (args .t1) (start .pre) in (line-served (args .t1) h l, room-to-serve (args .t1) h l)
 
 returns-5 : tie.Need-returns-5
 unfolding stepOf
 returns-5 c = rw (c .before .before .before .before .before .before .before .enum-told .given .1) (c .before .before .before .serve .ensures (c .before .before .before .before .before .before .before .before .before .before .before .args .t1) refl refl refl)
 
 hop-requires-2 : tie.Need-hop-requires-2
-hop-requires-2 c κs = let h = sound-open (c .before .before .before .before .before .before .args .t1) (c .before .before .before .before .before .before .pre) in
-    (net-most (c .before .before .before .before .before .before .args .t1) h request _ (h .up), room-to-arrive (c .before .before .before .before .before .before .args .t1) h _)
+hop-requires-2 c κs =
+    let start = c .before .before .before .before .before .before in
+    let args = start .args in
+    let h = sound-open (args .t1) (start .pre) in
+    (net-most (args .t1) h request _ (h .up), room-to-arrive (args .t1) h _)
 
 returns-6 : tie.Need-returns-6
 unfolding stepOf
-returns-6 c = rw (c .before .before .before .before .before .before .x2 .given .1) (ap (arrivedOf (c .before .before .before .before .before .before .before .before .before .args .t1)) (c .before .before .hop2 .ensures) ∙ arrives (c .before .before .before .before .before .before .before .before .before .args .t1) _)
+returns-6 c =
+    let args = c .before .before .before .before .before .before .before .before .before .args in
+    rw (c .before .before .before .before .before .before .x2 .given .1) (ap (arrivedOf (args .t1)) (c .before .before .hop2 .ensures) ∙ arrives (args .t1) _)
 
 send-requires : tie.Need-send-requires
-send-requires c κs = let h = sound-open (c .before .before .before .before .before .args .t1) (c .before .before .before .before .before .pre) in (the-limits (c .before .before .before .before .before .args .t1) h .sites-most, room-to-send (c .before .before .before .before .before .args .t1) h _)
+send-requires c κs =
+    let start = c .before .before .before .before .before in
+    let args = start .args in
+    let h = sound-open (args .t1) (start .pre) in (the-limits (args .t1) h .sites-most, room-to-send (args .t1) h _)
 
 returns-7 : tie.Need-returns-7
 unfolding stepOf

@@ -1,6 +1,6 @@
-use Rattle.model.specs.Handling.{decided}
 use borrow.Author.Tests.{eq-eqb, ne-eqb}
 use borrow.Author.Needs.{needs}
+use Rattle.model.specs.Handling.{decided}
 use Rattle.rules.proofs.decision.decide.Statement.{statement}
 use Rattle.rules.proofs.decision.decide.Tie as tie
 

@@ -1,5 +1,5 @@
-use Rattle.model.specs.Handling.{onCommit}
 use borrow.Author.Needs.{needs}
+use Rattle.model.specs.Handling.{onCommit}
 use Rattle.rules.proofs.decision.on_commit.Statement.{statement}
 use Rattle.rules.proofs.decision.on_commit.Tie as tie
 

@@ -1,5 +1,5 @@
-use Rattle.model.specs.Handling.{missed, onLoadl}
 use borrow.Author.Needs.{needs}
+use Rattle.model.specs.Handling.{missed, onLoadl}
 use Rattle.rules.proofs.decision.on_loadl.Statement.{statement}
 use Rattle.rules.proofs.decision.on_loadl.Tie as tie
 

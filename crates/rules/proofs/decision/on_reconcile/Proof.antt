@@ -1,5 +1,5 @@
-use Rattle.model.specs.Handling.{onReconcile}
 use borrow.Author.Needs.{needs}
+use Rattle.model.specs.Handling.{onReconcile}
 use Rattle.rules.proofs.decision.on_reconcile.Statement.{statement}
 use Rattle.rules.proofs.decision.on_reconcile.Tie as tie
 

@@ -1,5 +1,5 @@
-use Rattle.model.specs.Handling.{missed, onStorel}
 use borrow.Author.Needs.{needs}
+use Rattle.model.specs.Handling.{missed, onStorel}
 use Rattle.rules.proofs.decision.on_storel.Statement.{statement}
 use Rattle.rules.proofs.decision.on_storel.Tie as tie
 

@@ -12,8 +12,10 @@ cast-words : tie.Need-cast-words
 cast-words c = search needs
 
 mul-result : tie.Need-mul-result
-mul-result c = let a : c .before .before .args .z .lines ≤ 255 = search needs in
-    let b : c .before .before .args .z .words ≤ 255 = search needs in
+mul-result c =
+    let args = c .before .before .args in
+    let a : args .z .lines ≤ 255 = search needs in
+    let b : args .z .words ≤ 255 = search needs in
     omega (arith, mul-le-mul a b)
 
 returns : tie.Need-returns

@@ -1,5 +1,5 @@
-use Rattle.model.specs.Issue.{blocks}
 use borrow.Author.Needs.{needs}
+use Rattle.model.specs.Issue.{blocks}
 use Rattle.rules.proofs.issue.cannot_pass.Statement.{statement}
 use Rattle.rules.proofs.issue.cannot_pass.Tie as tie
 

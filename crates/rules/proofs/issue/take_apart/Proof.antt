@@ -1,5 +1,5 @@
-use Rattle.model.specs.Issue.{kindOf, firstAddress, lastAddress, valueOf}
 use borrow.Author.Needs.{needs}
+use Rattle.model.specs.Issue.{kindOf, firstAddress, lastAddress, valueOf}
 use Rattle.rules.proofs.issue.take_apart.Statement.{statement}
 use Rattle.rules.proofs.issue.take_apart.Tie as tie
 

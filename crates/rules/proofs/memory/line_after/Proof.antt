@@ -1,10 +1,10 @@
-use Rattle.model.specs.Serve.{merged}
 use mathlib.Core.Bool.{false}
-use Rattle.lists.proofs.Long.{length-mapped, four}
-use lib.ListN.{length}
 use mathlib.Core.Path.{_≡_}
 use borrow.Author.Tests.{eq-eqb, ne-eqb}
 use borrow.Author.Needs.{needs}
+use lib.ListN.{length}
+use Rattle.lists.proofs.Long.{length-mapped, four}
+use Rattle.model.specs.Serve.{merged}
 use Rattle.rules.proofs.memory.line_after.Statement.{statement}
 use Rattle.rules.proofs.memory.line_after.Tie as tie
 
@@ -61,10 +61,12 @@ word-requires-4 c κs = search needs
 
 returns-2 : tie.Need-returns-2
 unfolding merged
-returns-2 c = let a : length (c .before .before .before .before .before .before .before .before .before .args .l .values) ≡ 4 = search (needs, length-mapped) in
-    let b : length (c .before .before .before .before .before .before .before .before .before .args .m .values) ≡ 4 = search (needs, length-mapped) in
-    let d : length (c .before .before .before .before .before .before .before .before .before .args .m .dirty) ≡ 4 = search (needs, length-mapped) in
-    rw (four (c .before .before .before .before .before .before .before .before .before .args .l .values) 0 a, four (c .before .before .before .before .before .before .before .before .before .args .m .values) 0 b, four (c .before .before .before .before .before .before .before .before .before .args .m .dirty) false d, ne-eqb _ _ (c .before .before .before .before .before .before .before .if1 .left), c .before .before .before .word .ensures, c .before .before .word2 .ensures, c .before .word3 .ensures, c .word4 .ensures)
+returns-2 c =
+    let args = c .before .before .before .before .before .before .before .before .before .args in
+    let a : length (args .l .values) ≡ 4 = search (needs, length-mapped) in
+    let b : length (args .m .values) ≡ 4 = search (needs, length-mapped) in
+    let d : length (args .m .dirty) ≡ 4 = search (needs, length-mapped) in
+    rw (four (args .l .values) 0 a, four (args .m .values) 0 b, four (args .m .dirty) false d, ne-eqb _ _ (c .before .before .before .before .before .before .before .if1 .left), c .before .before .before .word .ensures, c .before .before .word2 .ensures, c .before .word3 .ensures, c .word4 .ensures)
 
 pub line-after-spec : {M : Type 1} → statement M
 line-after-spec =

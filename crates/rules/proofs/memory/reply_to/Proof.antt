@@ -1,5 +1,5 @@
-use Rattle.model.specs.Serve.{replyTo}
 use borrow.Author.Tests.{eq-eqb, ne-eqb}
+use Rattle.model.specs.Serve.{replyTo}
 use Rattle.rules.proofs.memory.reply_to.Statement.{statement}
 use Rattle.rules.proofs.memory.reply_to.Tie as tie
 

@@ -1,8 +1,8 @@
-use Rattle.model.specs.Handling.{answered, performed}
-use Rattle.model.specs.declared.Answer.the-variants.{Nothing, Acknowledged}
-use Rattle.model.specs.Parts.{Site}
 use mathlib.Core.Path.{ap}
 use borrow.Author.Needs.{needs}
+use Rattle.model.specs.declared.Answer.the-variants.{Nothing, Acknowledged}
+use Rattle.model.specs.Handling.{answered, performed}
+use Rattle.model.specs.Parts.{Site}
 use Rattle.steps.proofs.handling.perform.Statement.{statement}
 use Rattle.steps.proofs.handling.perform.Tie as tie
 
@@ -96,7 +96,9 @@ returns c = rw (c .before .before .before .before .enum-told .given .1, c .made 
 
 returns-2 : tie.Need-returns-2
 unfolding performed
-returns-2 c = rw (c .before .before .enum-told2 .given .1, c .made2 .ensures, c .before .before .before .before .acknowledged .ensures) (ap (λ (q : Site). answered (Acknowledged (c .before .before .before .before .before .args .i) (c .before .before .before .before .before .args .w .tag)) q) (c .before .store .ensures))
+returns-2 c =
+    let args = c .before .before .before .before .before .args in
+    rw (c .before .before .enum-told2 .given .1, c .made2 .ensures, c .before .before .before .before .acknowledged .ensures) (ap (λ (q : Site). answered (Acknowledged (args .i) (args .w .tag)) q) (c .before .store .ensures))
 
 returns-3 : tie.Need-returns-3
 unfolding performed
@@ -104,7 +106,9 @@ returns-3 c = rw (c .before .enum-told3 .given .1, c .made3 .ensures, c .before 
 
 returns-4 : tie.Need-returns-4
 unfolding performed
-returns-4 c = rw (c .before .before .enum-told4 .given .1, c .made4 .ensures, c .before .before .before .before .acknowledged .ensures) (ap (λ (q : Site). answered (Acknowledged (c .before .before .before .before .before .args .i) (c .before .before .before .before .before .args .w .tag)) q) (c .before .drop-line .ensures))
+returns-4 c =
+    let args = c .before .before .before .before .before .args in
+    rw (c .before .before .enum-told4 .given .1, c .made4 .ensures, c .before .before .before .before .acknowledged .ensures) (ap (λ (q : Site). answered (Acknowledged (args .i) (args .w .tag)) q) (c .before .drop-line .ensures))
 
 returns-5 : tie.Need-returns-5
 unfolding performed

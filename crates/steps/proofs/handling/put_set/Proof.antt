@@ -14,7 +14,9 @@ mul-t : tie.Need-mul-t
 mul-t c = search needs
 
 element-set-from-t : tie.Need-element-set-from-t
-element-set-from-t c = omega (arith, c .before .set-number .ensures, mod-lt (c .before .before .args .line) (c .before .before .pre .0))
+element-set-from-t c =
+    let start = c .before .before in
+    omega (arith, c .before .set-number .ensures, mod-lt (start .args .line) (start .pre .0))
 
 returns : tie.Need-returns
 returns c = rw (c .before .set-number .ensures)

@@ -1,8 +1,8 @@
+use mathlib.Core.Path.{ap}
+use native.Mathlib.Omega.{arith}
+use borrow.Author.Needs.{needs}
 use Rattle.model.specs.Handling.{entryOf, writeBackOf, asked}
 use Rattle.model.specs.Parts.{Site}
-use native.Mathlib.Omega.{arith}
-use mathlib.Core.Path.{ap}
-use borrow.Author.Needs.{needs}
 use Rattle.steps.proofs.handling.write_back.Statement.{statement}
 use Rattle.steps.proofs.handling.write_back.Tie as tie
 
@@ -16,10 +16,14 @@ drop-line-requires : tie.Need-drop-line-requires
 drop-line-requires c κs = search needs
 
 ask-requires : tie.Need-ask-requires
-ask-requires c κs = (omega (arith, ap (λ (x : Site). x .pends) (c .drop-line .ensures), c .before .before .before .pre .2), omega (arith, ap (λ (x : Site). x .outgoing .count) (c .drop-line .ensures), c .before .before .before .pre .3))
+ask-requires c κs =
+    let start = c .before .before .before in
+    (omega (arith, ap (λ (x : Site). x .pends) (c .drop-line .ensures), start .pre .2), omega (arith, ap (λ (x : Site). x .outgoing .count) (c .drop-line .ensures), start .pre .3))
 
 returns : tie.Need-returns
-returns c = rw (c .ask .ensures, c .before .before .write-back-of .ensures, c .before .before .before .entry-of .ensures) (ap (λ (q : Site). asked q (entryOf (c .before .before .before .before .args .w) (c .before .before .before .before .args .values)) (writeBackOf (c .before .before .before .before .args .i) (c .before .before .before .before .args .p))) (c .before .drop-line .ensures))
+returns c =
+    let args = c .before .before .before .before .args in
+    rw (c .ask .ensures, c .before .before .write-back-of .ensures, c .before .before .before .entry-of .ensures) (ap (λ (q : Site). asked q (entryOf (args .w) (args .values)) (writeBackOf (args .i) (args .p))) (c .before .drop-line .ensures))
 
 pub write-back-spec : {M : Type 1} → statement M
 write-back-spec =

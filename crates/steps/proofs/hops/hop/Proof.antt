@@ -22,7 +22,9 @@ net-put-requires : tie.Need-net-put-requires
 net-put-requires c κs = search needs
 
 returns-2 : tie.Need-returns-2
-returns-2 c = rw (lt-ltb _ _ (c .before .before .before .if1 .left), c .net-put .ensures, lt-ltb _ _ (c .before .before .before .before .pre .1 (c .before .before .before .if1 .left)), c .before .net-rest .ensures)
+returns-2 c =
+    let mid = c .before .before .before in
+    rw (lt-ltb _ _ (mid .if1 .left), c .net-put .ensures, lt-ltb _ _ (c .before .before .before .before .pre .1 (mid .if1 .left)), c .before .net-rest .ensures)
 
 pub hop-spec : {M : Type 1} → statement M
 hop-spec =

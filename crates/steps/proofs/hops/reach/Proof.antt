@@ -1,8 +1,8 @@
-use Rattle.model.specs.Steps.{arrivedSite, afterArriveSite}
-use borrow.Author.Tests.{lt-ltb, le-ltb}
-use native.Mathlib.Omega.{arith}
 use mathlib.Core.Path.{sym}
+use native.Mathlib.Omega.{arith}
+use borrow.Author.Tests.{lt-ltb, le-ltb}
 use borrow.Author.Needs.{needs}
+use Rattle.model.specs.Steps.{arrivedSite, afterArriveSite}
 use Rattle.steps.proofs.hops.reach.Statement.{statement}
 use Rattle.steps.proofs.hops.reach.Tie as tie
 
@@ -42,7 +42,9 @@ net-rest-requires c κs = search needs
 
 returns-2 : tie.Need-returns-2
 unfolding arrivedSite afterArriveSite
-returns-2 c = λ s a b. rw (a, lt-ltb _ _ (c .before .before .before .before .before .if1 .left), b, c .before .site-put .ensures, lt-ltb _ _ (c .before .before .before .before .before .before .pre .1 (c .before .before .before .before .before .if1 .left) .1), c .net-rest .ensures)
+returns-2 c =
+    let mid = c .before .before .before .before .before in
+    λ s a b. rw (a, lt-ltb _ _ (mid .if1 .left), b, c .before .site-put .ensures, lt-ltb _ _ (c .before .before .before .before .before .before .pre .1 (mid .if1 .left) .1), c .net-rest .ensures)
 
 pub reach-spec : {M : Type 1} → statement M
 reach-spec =

@@ -1,11 +1,11 @@
+use mathlib.Core.Path.{sym}
+use Prim.Native.Nat.{_<_, _≤_}
+use native.Mathlib.Omega.{arith}
+use borrow.Author.Tests.{lt-ltb, le-ltb}
+use borrow.Author.Needs.{needs}
+use lib.ListN.{getD}
 use Rattle.model.specs.Steps.{sent, sentFrom, afterSend}
 use Rattle.model.specs.Parts.{pastSiteQueue}
-use lib.ListN.{getD}
-use borrow.Author.Tests.{lt-ltb, le-ltb}
-use native.Mathlib.Omega.{arith}
-use Prim.Native.Nat.{_<_, _≤_}
-use mathlib.Core.Path.{sym}
-use borrow.Author.Needs.{needs}
 use Rattle.steps.proofs.hops.send.Statement.{statement}
 use Rattle.steps.proofs.hops.send.Tie as tie
 
@@ -21,8 +21,10 @@ array-copy-out-q c = search needs
 
 returns-2 : tie.Need-returns-2
 unfolding sent sentFrom
-returns-2 c = λ s a b d.
-    let e : getD (c .before .before .before .args .t3) (c .before .before .before .args .site) pastSiteQueue .count ≤ 0 = omega (arith, c .if2 .taken) in
+returns-2 c =
+    let args = c .before .before .before .args in
+    λ s a b d.
+    let e : getD (args .t3) (args .site) pastSiteQueue .count ≤ 0 = omega (arith, c .if2 .taken) in
     rw (a, lt-ltb _ _ (c .before .before .if1 .left), b, le-ltb _ _ e, sym b, sym d)
 
 element-copy-out-m : tie.Need-element-copy-out-m
@@ -42,9 +44,13 @@ net-put-requires c κs = search needs
 
 returns-3 : tie.Need-returns-3
 unfolding sent sentFrom afterSend
-returns-3 c = λ s a b d.
-    let e : 0 < getD (c .before .before .before .before .before .before .args .t3) (c .before .before .before .before .before .before .args .site) pastSiteQueue .count = omega (arith, c .before .before .before .if2 .left) in
-    rw (a, lt-ltb _ _ (c .before .before .before .before .before .if1 .left), b, lt-ltb _ _ e, d, c .net-put .ensures, lt-ltb _ _ (c .before .before .before .before .before .before .pre .1 (c .before .before .before .before .before .if1 .left) e), c .before .site-rest .ensures)
+returns-3 c =
+    let mid = c .before .before .before .before .before in
+    let start = c .before .before .before .before .before .before in
+    let args = start .args in
+    λ s a b d.
+    let e : 0 < getD (args .t3) (args .site) pastSiteQueue .count = omega (arith, c .before .before .before .if2 .left) in
+    rw (a, lt-ltb _ _ (mid .if1 .left), b, lt-ltb _ _ e, d, c .net-put .ensures, lt-ltb _ _ (start .pre .1 (mid .if1 .left) e), c .before .site-rest .ensures)
 
 pub send-spec : {M : Type 1} → statement M
 send-spec =

@@ -1,11 +1,11 @@
-use Rattle.steps.proofs.Carries.{stores}
+use mathlib.Core.Path.{sym}
+use Prim.Native.Nat.{_<_, _≤_}
+use native.Mathlib.Omega.{arith}
+use borrow.Author.Tests.{lt-ltb, le-ltb}
+use borrow.Author.Needs.{needs}
 use Rattle.model.specs.Parts.{netAt}
 use Rattle.model.specs.Steps.{serveStep, afterServe}
-use borrow.Author.Tests.{lt-ltb, le-ltb}
-use native.Mathlib.Omega.{arith}
-use Prim.Native.Nat.{_<_, _≤_}
-use mathlib.Core.Path.{sym}
-use borrow.Author.Needs.{needs}
+use Rattle.steps.proofs.Carries.{stores}
 use Rattle.steps.proofs.hops.serve.Statement.{statement}
 use Rattle.steps.proofs.hops.serve.Tie as tie
 
@@ -23,7 +23,9 @@ mul-old : tie.Need-mul-old
 mul-old c = search needs
 
 array-copy-out-old : tie.Need-array-copy-out-old
-array-copy-out-old c = let e : 0 < c .before .before .before .args .t2 .count = omega (arith, c .before .before .if1 .left) in omega (arith, c .before .before .before .pre e .0)
+array-copy-out-old c =
+    let start = c .before .before .before in
+    let e : 0 < start .args .t2 .count = omega (arith, c .before .before .if1 .left) in omega (arith, start .pre e .0)
 
 line-after-requires : tie.Need-line-after-requires
 line-after-requires c κs = search needs
@@ -32,7 +34,9 @@ mul-memory : tie.Need-mul-memory
 mul-memory c = search needs
 
 array-set-from-memory : tie.Need-array-set-from-memory
-array-set-from-memory c = let e : 0 < c .before .before .before .before .before .args .t2 .count = omega (arith, c .before .before .before .before .if1 .left) in omega (arith, c .before .before .before .before .before .pre e .0)
+array-set-from-memory c =
+    let start = c .before .before .before .before .before in
+    let e : 0 < start .args .t2 .count = omega (arith, c .before .before .before .before .if1 .left) in omega (arith, start .pre e .0)
 
 net-rest-requires : tie.Need-net-rest-requires
 net-rest-requires c κs = search needs
@@ -45,9 +49,12 @@ net-put-requires c κs = search needs
 
 returns-2 : tie.Need-returns-2
 unfolding serveStep afterServe
-returns-2 c = λ s a b d.
-    let e : 0 < c .before .before .before .before .before .before .before .before .args .t2 .count = omega (arith, c .before .before .before .before .before .before .before .if1 .left) in
-    rw (b, lt-ltb _ _ e, a, d, c .net-put .ensures, lt-ltb _ _ (c .before .before .before .before .before .before .before .before .pre e .1), c .before .reply-to .ensures, c .before .before .net-rest .ensures, c .before .before .before .line-after .ensures, stores (c .before .before .before .before .before .before .before .before .args .t1) (netAt (c .before .before .before .before .before .before .before .before .args .t2) 0))
+returns-2 c =
+    let start = c .before .before .before .before .before .before .before .before in
+    let args = start .args in
+    λ s a b d.
+    let e : 0 < args .t2 .count = omega (arith, c .before .before .before .before .before .before .before .if1 .left) in
+    rw (b, lt-ltb _ _ e, a, d, c .net-put .ensures, lt-ltb _ _ (start .pre e .1), c .before .reply-to .ensures, c .before .before .net-rest .ensures, c .before .before .before .line-after .ensures, stores (args .t1) (netAt (args .t2) 0))
 
 pub serve-spec : {M : Type 1} → statement M
 serve-spec =

@@ -1,7 +1,7 @@
-use Rattle.model.specs.Parts.{Site}
-use native.Mathlib.Omega.{arith}
 use mathlib.Core.Path.{ap}
+use native.Mathlib.Omega.{arith}
 use borrow.Author.Needs.{needs}
+use Rattle.model.specs.Parts.{Site}
 use Rattle.steps.proofs.taking.cache_line.Statement.{statement}
 use Rattle.steps.proofs.taking.cache_line.Tie as tie
 

@@ -1,6 +1,6 @@
-use Rattle.model.specs.Take.{settled}
 use borrow.Author.Tests.{lt-ltb}
 use borrow.Author.Needs.{needs}
+use Rattle.model.specs.Take.{settled}
 use Rattle.steps.proofs.taking.settle.Statement.{statement}
 use Rattle.steps.proofs.taking.settle.Tie as tie
 

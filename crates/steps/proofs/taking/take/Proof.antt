@@ -1,11 +1,11 @@
-use Rattle.model.specs.Take.{taken}
-use Rattle.model.specs.Handling.{answered}
+use mathlib.Core.Path.{ap}
+use borrow.Author.Tests.{eq-eqb, ne-eqb}
+use borrow.Author.Needs.{needs}
 use lib.ListN.{getD}
 use Rattle.model.specs.declared.Answer.the-variants.{Nothing, Loaded, Acknowledged}
+use Rattle.model.specs.Take.{taken}
+use Rattle.model.specs.Handling.{answered}
 use Rattle.model.specs.Parts.{Site}
-use borrow.Author.Tests.{eq-eqb, ne-eqb}
-use mathlib.Core.Path.{ap}
-use borrow.Author.Needs.{needs}
 use Rattle.steps.proofs.taking.take.Statement.{statement}
 use Rattle.steps.proofs.taking.take.Tie as tie
 
@@ -35,7 +35,9 @@ made-requires c κs = search needs
 
 returns : tie.Need-returns
 unfolding taken
-returns c = rw (eq-eqb _ _ (c .before .before .before .before .before .before .if1 .taken), c .made .ensures, c .before .before .before .loaded .ensures) (ap (λ (q : Site). answered (Loaded (c .before .before .before .before .before .before .before .before .args .i) (c .before .before .before .before .before .before .before .before .args .e .tag) (getD (c .before .before .before .before .before .before .before .before .args .m .values) (c .before .before .before .before .before .before .before .before .args .e .word) 0)) q) (rw (c .before .before .clean-place .ensures) at (c .before .cache-line .ensures)))
+returns c =
+    let args = c .before .before .before .before .before .before .before .before .args in
+    rw (eq-eqb _ _ (c .before .before .before .before .before .before .if1 .taken), c .made .ensures, c .before .before .before .loaded .ensures) (ap (λ (q : Site). answered (Loaded (args .i) (args .e .tag) (getD (args .m .values) (args .e .word) 0)) q) (rw (c .before .before .clean-place .ensures) at (c .before .cache-line .ensures)))
 
 clean-place-requires-2 : tie.Need-clean-place-requires-2
 clean-place-requires-2 c κs = search needs
@@ -51,7 +53,9 @@ made-requires-2 c κs = search needs
 
 returns-2 : tie.Need-returns-2
 unfolding taken
-returns-2 c = rw (ne-eqb _ _ (c .before .before .before .before .before .before .if1 .left), eq-eqb _ _ (c .before .before .before .before .before .if2 .taken), c .made2 .ensures, c .before .before .before .before .before .before .before .acknowledged .ensures) (ap (λ (q : Site). answered (Acknowledged (c .before .before .before .before .before .before .before .before .args .i) (c .before .before .before .before .before .before .before .before .args .e .tag)) q) (rw (c .before .before .written .ensures, c .before .before .before .clean-place2 .ensures) at (c .before .cache-line2 .ensures)))
+returns-2 c =
+    let args = c .before .before .before .before .before .before .before .before .args in
+    rw (ne-eqb _ _ (c .before .before .before .before .before .before .if1 .left), eq-eqb _ _ (c .before .before .before .before .before .if2 .taken), c .made2 .ensures, c .before .before .before .before .before .before .before .acknowledged .ensures) (ap (λ (q : Site). answered (Acknowledged (args .i) (args .e .tag)) q) (rw (c .before .before .written .ensures, c .before .before .before .clean-place2 .ensures) at (c .before .cache-line2 .ensures)))
 
 clean-place-requires-3 : tie.Need-clean-place-requires-3
 clean-place-requires-3 c κs = search needs
@@ -64,7 +68,9 @@ made-requires-3 c κs = search needs
 
 returns-3 : tie.Need-returns-3
 unfolding taken
-returns-3 c = rw (ne-eqb _ _ (c .before .before .before .before .before .before .if1 .left), ne-eqb _ _ (c .before .before .before .before .before .if2 .left), eq-eqb _ _ (c .before .before .before .before .if3 .taken), c .made3 .ensures, c .before .before .before .before .before .before .before .acknowledged .ensures) (ap (λ (q : Site). answered (Acknowledged (c .before .before .before .before .before .before .before .before .args .i) (c .before .before .before .before .before .before .before .before .args .e .tag)) q) (rw (c .before .before .clean-place3 .ensures) at (c .before .cache-line3 .ensures)))
+returns-3 c =
+    let args = c .before .before .before .before .before .before .before .before .args in
+    rw (ne-eqb _ _ (c .before .before .before .before .before .before .if1 .left), ne-eqb _ _ (c .before .before .before .before .before .if2 .left), eq-eqb _ _ (c .before .before .before .before .if3 .taken), c .made3 .ensures, c .before .before .before .before .before .before .before .acknowledged .ensures) (ap (λ (q : Site). answered (Acknowledged (args .i) (args .e .tag)) q) (rw (c .before .before .clean-place3 .ensures) at (c .before .cache-line3 .ensures)))
 
 remove-entry-requires : tie.Need-remove-entry-requires
 remove-entry-requires c κs = search needs
@@ -74,7 +80,9 @@ made-requires-4 c κs = search needs
 
 returns-4 : tie.Need-returns-4
 unfolding taken
-returns-4 c = rw (ne-eqb _ _ (c .before .before .before .before .before .if1 .left), ne-eqb _ _ (c .before .before .before .before .if2 .left), ne-eqb _ _ (c .before .before .before .if3 .left), eq-eqb _ _ (c .before .if4 .taken), c .made4 .ensures, c .before .before .before .before .before .before .acknowledged .ensures) (ap (λ (q : Site). answered (Acknowledged (c .before .before .before .before .before .before .before .args .i) (c .before .before .before .before .before .before .before .args .e .tag)) q) (c .before .before .remove-entry .ensures))
+returns-4 c =
+    let args = c .before .before .before .before .before .before .before .args in
+    rw (ne-eqb _ _ (c .before .before .before .before .before .if1 .left), ne-eqb _ _ (c .before .before .before .before .if2 .left), ne-eqb _ _ (c .before .before .before .if3 .left), eq-eqb _ _ (c .before .if4 .taken), c .made4 .ensures, c .before .before .before .before .before .before .acknowledged .ensures) (ap (λ (q : Site). answered (Acknowledged (args .i) (args .e .tag)) q) (c .before .before .remove-entry .ensures))
 
 made-requires-5 : tie.Need-made-requires-5
 made-requires-5 c κs = search needs

@@ -14,10 +14,14 @@ rem-word : tie.Need-rem-word
 rem-word c = search needs
 
 cast-t7 : tie.Need-cast-t7
-cast-t7 c = omega (arith, div-lt-iff-lt-mul (c .before .before .before .pre .1) .1 (c .before .before .before .pre .0))
+cast-t7 c =
+    let start = c .before .before .before in
+    omega (arith, div-lt-iff-lt-mul (start .pre .1) .1 (start .pre .0))
 
 cast-t8 : tie.Need-cast-t8
-cast-t8 c = omega (arith, mod-lt (c .before .before .before .args .a .first) (c .before .before .before .pre .1))
+cast-t8 c =
+    let start = c .before .before .before in
+    omega (arith, mod-lt (start .args .a .first) (start .pre .1))
 
 returns : tie.Need-returns
 returns c = search needs

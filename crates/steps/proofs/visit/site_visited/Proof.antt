@@ -1,12 +1,12 @@
-use Rattle.steps.specs.View.{siteVisited}
-use Rattle.model.specs.declared.Step.the-variants.{Issue, Retry, Send, ArriveMemory, Serve, SendBack, ArriveSite, Take}
-use Rattle.model.specs.declared.Step.{Step}
-use Rattle.model.proofs.Step as T
-use denote.Enum.Declared.{tagOf}
-use types.Run.{OneOf, miss}
 use mathlib.Core.List.{[], _∷_}
 use mathlib.Core.Path.{_≡_, refl}
 use borrow.Author.Needs.{needs}
+use types.Run.{OneOf, miss}
+use denote.Enum.Declared.{tagOf}
+use Rattle.model.specs.declared.Step.the-variants.{Issue, Retry, Send, ArriveMemory, Serve, SendBack, ArriveSite, Take}
+use Rattle.model.specs.declared.Step.{Step}
+use Rattle.model.proofs.Step as T
+use Rattle.steps.specs.View.{siteVisited}
 use Rattle.steps.proofs.visit.site_visited.Statement.{statement}
 use Rattle.steps.proofs.visit.site_visited.Tie as tie
 

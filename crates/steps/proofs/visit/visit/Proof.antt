@@ -1,16 +1,16 @@
-use Rattle.steps.specs.View.{siteOf, visited}
-use Rattle.model.specs.Steps.{tookAt}
-use Rattle.model.specs.Parts.{Site}
+use mathlib.Core.List.{[], _∷_}
+use mathlib.Core.Path.{_≡_, refl, sym, _∙_}
+use Prim.Native.Nat.{ℕ}
+use borrow.Author.Needs.{needs}
+use types.Run.{OneOf, miss}
+use denote.Enum.Declared.{tagOf}
 use Rattle.model.specs.declared.Step.the-variants.{Issue, Retry, Send, ArriveMemory, Serve, SendBack, ArriveSite, Take}
 use Rattle.model.specs.declared.Step.{Step}
 use Rattle.model.specs.declared.System.{System}
+use Rattle.model.specs.Steps.{tookAt}
+use Rattle.model.specs.Parts.{Site}
 use Rattle.model.proofs.Step as T
-use denote.Enum.Declared.{tagOf}
-use types.Run.{OneOf, miss}
-use Prim.Native.Nat.{ℕ}
-use mathlib.Core.List.{[], _∷_}
-use mathlib.Core.Path.{_≡_, refl, sym, _∙_}
-use borrow.Author.Needs.{needs}
+use Rattle.steps.specs.View.{siteOf, visited}
 use Rattle.steps.proofs.visit.visit.Statement.{statement}
 use Rattle.steps.proofs.visit.visit.Tie as tie
 
@@ -37,7 +37,9 @@ other s i x (ArriveSite p) k l = refl
 other s i x (Take j) k l = refl
 
 returns : tie.Need-returns
-returns c = λ s e h. c .take-reply .ensures s e h ∙ sym (other s (c .before .before .before .args .i) (siteOf (c .before .before .before .args .x)) (c .before .before .before .args .step) (c .before .before .match .keys2) (c .before .match2 .keys2))
+returns c =
+    let args = c .before .before .before .args in
+    λ s e h. c .take-reply .ensures s e h ∙ sym (other s (args .i) (siteOf (args .x)) (args .step) (c .before .before .match .keys2) (c .before .match2 .keys2))
 
 retry-requires : tie.Need-retry-requires
 retry-requires c κs = search needs

@@ -1,13 +1,13 @@
-use Rattle.model.specs.Handling.{mustWait}
-use Rattle.model.specs.declared.Action.the-variants.{Load, Store, Acknowledge, Drop, Fetch, WriteBackKept, WriteBackDropped, Wait}
-use Rattle.model.specs.declared.Action.{Action}
-use Rattle.model.proofs.Action as T
-use denote.Enum.Declared.{tagOf}
-use types.Run.{OneOf, miss}
 use mathlib.Core.Bool.{false}
 use mathlib.Core.Path.{_≡_, refl}
 use mathlib.Core.List.{[], _∷_}
 use borrow.Author.Needs.{needs}
+use types.Run.{OneOf, miss}
+use denote.Enum.Declared.{tagOf}
+use Rattle.model.specs.declared.Action.the-variants.{Load, Store, Acknowledge, Drop, Fetch, WriteBackKept, WriteBackDropped, Wait}
+use Rattle.model.specs.declared.Action.{Action}
+use Rattle.model.specs.Handling.{mustWait}
+use Rattle.model.proofs.Action as T
 use Rattle.steps.proofs.visit.waits.Statement.{statement}
 use Rattle.steps.proofs.visit.waits.Tie as tie
 
