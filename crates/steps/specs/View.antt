@@ -25,6 +25,7 @@ use Rattle.steps.specs.declared.here.Made.{Made}
 use Rattle.steps.specs.declared.here.Visit.{Visit}
 use Rattle.steps.specs.declared.visit.Choice.{Choice}
 
+-- the site that the parts in hand are
 abbrev pub siteOf : Here → Site
 siteOf x = siteFrom (x .cache) (x .pends) (x .stalls) (x .outgoing) (x .incoming)
 
@@ -67,7 +68,7 @@ pub record Fit (z : Sizes) (i : ℕ) (x : Site) : Type 0 where
   pub room : x .outgoing .count + x .incoming .count ≤ x .pends
   pub entry : 0 < x .incoming .count → entryFor x (siteHead (x .incoming) .line) < x .pends
 
--- the step at site i, which it visits
+-- an issue, a retry or a take at site i; any other step counts as a take
 unfoldable pub visited : System → ℕ → Site → Step → After
 visited s i x (Issue j t n) = issuedAt s i x n (asWaiting (s .sizes) t n)
 visited s i x (Retry j) = retriedAt s i x
@@ -78,7 +79,7 @@ visited s i x SendBack = tookAt s i x
 visited s i x (ArriveSite p) = tookAt s i x
 visited s i x (Take j) = tookAt s i x
 
--- the site that an issue, a retry or a take visits
+-- the site that an issue, a retry or a take visits; 0 for any other step
 unfoldable pub siteVisited : Step → ℕ
 siteVisited (Issue i t n) = i
 siteVisited (Retry i) = i

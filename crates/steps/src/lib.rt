@@ -24,7 +24,8 @@ use visit::site_visited;
 use visit::visit;
 
 // A step of a sound state. It asks for soundness and does not look: what it leaves is sound again, so whoever steps on need not look either.
-// It alone holds a System, since each function that takes one and gives one back costs two copies of it; hence its length.
+// It alone holds a System, since each function that takes one and gives one back costs two copies of it; hence its length. What is no step of the kind
+// looked for leaves by `else`, so the kinds' bodies stand in the reverse order of their heads.
 pub fn step_sound(mut s: System, x: Step) -> After
     requires { ⌜ sound s ≡ true ⌝ }
     ensures { λ r. ⌜ r ≡ stepOf s x ⌝ }
@@ -34,7 +35,7 @@ pub fn step_sound(mut s: System, x: Step) -> After
             let Step::Serve = x else {
                 let Step::SendBack = x else {
                     let Step::ArriveSite(position) = x else {
-                        // An issue, a retry or a take: the site is taken out, visited and put back.
+                        // Issue, retry or take: the site is taken out, visited and put back.
                         let z = s.sizes;
                         let site = site_visited(x);
                         if z.sites as u32 <= site {
@@ -74,6 +75,7 @@ pub fn step_sound(mut s: System, x: Step) -> After
                             system: s,
                         };
                     };
+                    // Arrive-site.
                     let incoming = s.incoming;
                     let h = reach(s.down, position, incoming);
                     let down = h.down;
@@ -86,6 +88,7 @@ pub fn step_sound(mut s: System, x: Step) -> After
                         system: s,
                     };
                 };
+                // Send-back.
                 let h = hop(s.served, 0, s.down);
                 let served = h.from;
                 s.served = served;
@@ -97,6 +100,7 @@ pub fn step_sound(mut s: System, x: Step) -> After
                     system: s,
                 };
             };
+            // Serve.
             let memory = s.memory;
             let h = serve(memory, s.arrived, s.served);
             let memory = h.memory;
@@ -111,6 +115,7 @@ pub fn step_sound(mut s: System, x: Step) -> After
                 system: s,
             };
         };
+        // Arrive-memory.
         let h = hop(s.up, position, s.arrived);
         let up = h.from;
         s.up = up;
@@ -122,6 +127,7 @@ pub fn step_sound(mut s: System, x: Step) -> After
             system: s,
         };
     };
+    // Send.
     let outgoing = s.outgoing;
     let h = send(s.sizes.sites, site, outgoing, s.up);
     let outgoing = h.outgoing;

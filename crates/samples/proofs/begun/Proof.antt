@@ -1,6 +1,6 @@
 use mathlib.Core.Path.{_∙_}
-use Rattle.promises.proofs.Demands.{fresh-is-sound}
 use borrow.Author.Needs.{needs}
+use Rattle.promises.proofs.Demands.{fresh-is-sound}
 use Rattle.samples.proofs.begun.Statement.{statement}
 use Rattle.samples.proofs.begun.Tie as tie
 

@@ -1,6 +1,6 @@
 use mathlib.Core.Path.{refl}
-use Rattle.model.specs.Limits.{inLimits}
 use borrow.Author.Needs.{needs}
+use Rattle.model.specs.Limits.{inLimits}
 use Rattle.samples.proofs.main.Statement.{statement}
 use Rattle.samples.proofs.main.Tie as tie
 

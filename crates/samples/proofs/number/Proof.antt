@@ -1,5 +1,5 @@
-use Rattle.model.specs.Given.{numberOf}
 use borrow.Author.Needs.{needs}
+use Rattle.model.specs.Given.{numberOf}
 use Rattle.samples.proofs.number.Statement.{statement}
 use Rattle.samples.proofs.number.Tie as tie
 

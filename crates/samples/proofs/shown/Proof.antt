@@ -1,5 +1,5 @@
-use Rattle.steps.proofs.Again.{sound-again}
 use borrow.Author.Needs.{needs}
+use Rattle.steps.proofs.Again.{sound-again}
 use Rattle.samples.proofs.shown.Statement.{statement}
 use Rattle.samples.proofs.shown.Tie as tie
 

@@ -1,12 +1,12 @@
 use mathlib.Core.Path.{_≡_, refl}
 use mathlib.Core.Bool.{_&&_}
-use lib.Dec.{T}
 use borrow.Author.Tests.{not-true, not-false}
+use borrow.Author.Needs.{needs}
+use lib.Dec.{T}
 use Rattle.lists.proofs.Tests.{and-l, and-r}
 use Rattle.model.specs.declared.System.{System}
 use Rattle.model.specs.Sound.{sound, messagesFit, underWay}
 use Rattle.sound.specs.Fitting.{partsFit, Fitting}
-use borrow.Author.Needs.{needs}
 use Rattle.sound.proofs.is_sound.Statement.{statement}
 use Rattle.sound.proofs.is_sound.Tie as tie
 

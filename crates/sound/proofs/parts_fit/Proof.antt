@@ -1,6 +1,6 @@
+use borrow.Author.Needs.{needs}
 use Rattle.model.specs.Sound.{fourSites, sitesFit}
 use Rattle.sound.specs.Fitting.{partsFit}
-use borrow.Author.Needs.{needs}
 use Rattle.sound.proofs.parts_fit.Statement.{statement}
 use Rattle.sound.proofs.parts_fit.Tie as tie
 

@@ -1,11 +1,11 @@
 use mathlib.Core.Path.{_≡_}
 use Prim.Native.Nat.{_%_, _≤_}
 use native.Mathlib.Omega.{arith}
+use borrow.Author.Needs.{needs}
 use lib.ListN.{length, List·getD-eq-default}
 use Rattle.lists.proofs.Long.{length-mapped}
 use Rattle.model.specs.Parts.{pastSet}
 use Rattle.model.specs.Sets.{seat}
-use borrow.Author.Needs.{needs}
 use Rattle.sound.proofs.differ.is_cached.Statement.{statement}
 use Rattle.sound.proofs.differ.is_cached.Tie as tie
 

@@ -3,8 +3,8 @@ use Prim.Native.Nat.{_≤_, _-_}
 use native.Mathlib.Omega.{arith}
 use borrow.Author.Needs.{needs}
 use lib.ListN.{length, getD}
-use Rattle.lists.proofs.Long.{length-mapped}
 use Rattle.lists.specs.Places.{unlike}
+use Rattle.lists.proofs.Long.{length-mapped}
 use Rattle.lists.proofs.Unlike.{unlike-turn}
 use Rattle.model.specs.Parts.{pastEntry}
 use Rattle.model.specs.Sound.{samePendTag}

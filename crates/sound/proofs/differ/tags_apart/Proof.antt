@@ -3,8 +3,8 @@ use Prim.Native.Nat.{_≤_, _-_}
 use native.Mathlib.Omega.{arith}
 use borrow.Author.Needs.{needs}
 use lib.ListN.{length}
-use Rattle.lists.proofs.Long.{length-mapped}
 use Rattle.lists.specs.Places.{eachOf, noneOf}
+use Rattle.lists.proofs.Long.{length-mapped}
 use Rattle.lists.proofs.Each.{each-none, each-turn}
 use Rattle.model.specs.declared.Waiting.{Waiting}
 use Rattle.model.specs.Parts.{pastWaiting}

@@ -2,8 +2,8 @@ use mathlib.Core.Path.{_≡_, _∙_}
 use mathlib.Core.Bool.{Bool}
 use Prim.Native.Nat.{ℕ, _≤_, _-_}
 use native.Mathlib.Omega.{arith}
-use lib.Dec.{leb}
 use borrow.Author.Needs.{needs}
+use lib.Dec.{leb}
 use Rattle.lists.proofs.Long.{length-mapped}
 use Rattle.lists.proofs.Turns.{passed, passed-none, passed-turn, passed-all}
 use Rattle.model.specs.declared.SiteQueue.{SiteQueue}

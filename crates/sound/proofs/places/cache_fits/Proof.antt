@@ -2,9 +2,9 @@ use mathlib.Core.Path.{_≡_, sym}
 use mathlib.Core.Bool.{Bool}
 use Prim.Native.Nat.{ℕ, _≤_, _-_}
 use native.Mathlib.Omega.{arith}
-use lib.ListN.{length, getD}
 use borrow.Author.Needs.{needs}
 use borrow.Author.Tests.{eq-eqb}
+use lib.ListN.{length, getD}
 use Rattle.lists.specs.Places.{allBelow}
 use Rattle.lists.proofs.Long.{length-mapped}
 use Rattle.lists.proofs.Below.{below-turn}

@@ -1,14 +1,14 @@
 use mathlib.Core.Path.{_≡_}
 use mathlib.Core.Bool.{Bool, _&&_}
+use borrow.Author.Needs.{needs}
 use lib.Dec.{eqb}
-use Rattle.lists.proofs.Places.{array-none}
 use Rattle.lists.specs.Places.{array}
+use Rattle.lists.proofs.Places.{array-none}
 use Rattle.model.specs.declared.Sizes.{Sizes}
 use Rattle.model.specs.declared.Pends.{Pends}
 use Rattle.model.specs.declared.Stalls.{Stalls}
 use Rattle.model.specs.declared.SiteQueue.{SiteQueue}
 use Rattle.model.specs.Sound.{freeMessage, freeEntry, freeWaiting, request, reply, queueFits, pendsFit, stallsFit, siteQueueFits, freeSite}
-use borrow.Author.Needs.{needs}
 use Rattle.sound.proofs.sites.free_site.Statement.{statement}
 use Rattle.sound.proofs.sites.free_site.Tie as tie
 

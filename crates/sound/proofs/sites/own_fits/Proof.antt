@@ -1,10 +1,11 @@
 use mathlib.Core.Path.{_≡_}
 use mathlib.Core.Bool.{Bool, false, not, _&&_}
+use mathlib.Core.List.{List}
 use Prim.Native.Nat.{ℕ, _≤_}
 use native.Mathlib.Omega.{arith}
-use lib.Dec.{T, leb}
-use mathlib.Core.List.{List}
 use borrow.Author.Tests.{not-true, not-false}
+use borrow.Author.Needs.{needs}
+use lib.Dec.{T, leb}
 use Rattle.lists.specs.Places.{array}
 use Rattle.lists.proofs.Tests.{and-l, and-r}
 use Rattle.lists.proofs.Places.{array-length, array-most}
@@ -12,7 +13,6 @@ use Rattle.model.specs.declared.Sizes.{Sizes}
 use Rattle.model.specs.declared.Pends.{Pends}
 use Rattle.model.specs.declared.Stalls.{Stalls}
 use Rattle.model.specs.Sound.{entryFits, freeEntry, waitingFits, freeWaiting, pendsFit, stallsFit, ownFits}
-use borrow.Author.Needs.{needs}
 use Rattle.sound.proofs.sites.own_fits.Statement.{statement}
 use Rattle.sound.proofs.sites.own_fits.Tie as tie
 

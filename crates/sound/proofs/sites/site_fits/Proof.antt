@@ -1,5 +1,5 @@
-use Rattle.model.specs.Sound.{siteFits}
 use borrow.Author.Needs.{needs}
+use Rattle.model.specs.Sound.{siteFits}
 use Rattle.sound.proofs.sites.site_fits.Statement.{statement}
 use Rattle.sound.proofs.sites.site_fits.Tie as tie
 

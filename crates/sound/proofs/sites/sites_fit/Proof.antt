@@ -2,8 +2,9 @@ use mathlib.Core.Path.{_≡_, sym}
 use mathlib.Core.Bool.{Bool}
 use Prim.Native.Nat.{ℕ, _≤_, _-_}
 use native.Mathlib.Omega.{arith}
-use lib.ListN.{length}
 use borrow.Author.Tests.{eq-eqb}
+use borrow.Author.Needs.{needs}
+use lib.ListN.{length}
 use Rattle.lists.specs.Places.{allBelow}
 use Rattle.lists.proofs.Below.{below-turn}
 use Rattle.lists.proofs.Long.{length-mapped}
@@ -11,7 +12,6 @@ use Rattle.model.specs.declared.System.{System}
 use Rattle.model.specs.Parts.{siteAt}
 use Rattle.model.specs.Sound.{siteOk, fourSites, sitesFit}
 use Rattle.sound.specs.Sites.{systemOf}
-use borrow.Author.Needs.{needs}
 use Rattle.sound.proofs.sites.sites_fit.Statement.{statement}
 use Rattle.sound.proofs.sites.sites_fit.Tie as tie
 

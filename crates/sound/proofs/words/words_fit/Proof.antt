@@ -1,6 +1,6 @@
 use mathlib.Core.Path.{sym}
-use lib.Dec.{eqb}
 use borrow.Author.Needs.{needs}
+use lib.Dec.{eqb}
 use Rattle.lists.proofs.Turns.{array-four}
 use Rattle.model.specs.Sets.{wordsFit}
 use Rattle.sound.proofs.words.words_fit.Statement.{statement}
