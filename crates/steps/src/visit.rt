@@ -199,16 +199,21 @@ fn take_reply(z: Sizes, i: u8, x: Here) -> Visit
 pub(crate) fn site_visited(step: Step) -> u32
     ensures { λ r. ⌜ r ≡ siteVisited step ⌝ }
 {
-    match step {
-        Step::Issue {
-            site,
-            tag: _,
-            instruction: _,
-        } => site,
-        Step::Retry(site) => site,
-        Step::Take(site) => site,
-        _ => 0,
-    }
+    let Step::Issue {
+        site,
+        tag: _,
+        instruction: _,
+    } = step
+    else {
+        let Step::Retry(site) = step else {
+            let Step::Take(site) = step else {
+                return 0;
+            };
+            return site;
+        };
+        return site;
+    };
+    site
 }
 
 // An issue, a retry or a take, at the site that it visits.

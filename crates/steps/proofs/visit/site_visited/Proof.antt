@@ -19,32 +19,33 @@ enum-known-step-2 c = search needs
 enum-known-step-3 : tie.Need-enum-known-step-3
 enum-known-step-3 c = search needs
 
-returns : tie.Need-returns
+-- neither an issue nor a retry nor a take
+other : (t : Step) → OneOf (1 ∷ 2 ∷ 3 ∷ 4 ∷ 5 ∷ 6 ∷ 7 ∷ []) (tagOf T.the-type t) → OneOf (0 ∷ 2 ∷ 3 ∷ 4 ∷ 5 ∷ 6 ∷ 7 ∷ []) (tagOf T.the-type t) →
+    OneOf (0 ∷ 1 ∷ 2 ∷ 3 ∷ 4 ∷ 5 ∷ 6 ∷ []) (tagOf T.the-type t) → 0 ≡ siteVisited t
 unfolding siteVisited
-returns c = rw (c .before .step .given .1)
+other (Issue i u n) j k l = absurd (miss (1 ∷ 2 ∷ 3 ∷ 4 ∷ 5 ∷ 6 ∷ 7 ∷ []) 0 tt j)
+other (Retry i) j k l = absurd (miss (0 ∷ 2 ∷ 3 ∷ 4 ∷ 5 ∷ 6 ∷ 7 ∷ []) 1 tt k)
+other (Send i) j k l = refl
+other (ArriveMemory p) j k l = refl
+other Serve j k l = refl
+other SendBack j k l = refl
+other (ArriveSite p) j k l = refl
+other (Take i) j k l = absurd (miss (0 ∷ 1 ∷ 2 ∷ 3 ∷ 4 ∷ 5 ∷ 6 ∷ []) 7 tt l)
+
+returns : tie.Need-returns
+returns c = other (c .before .before .before .args .step) (c .before .before .match .keys2) (c .before .match2 .keys2) (c .match3 .keys2)
 
 returns-2 : tie.Need-returns-2
 unfolding siteVisited
-returns-2 c = rw (c .before .step2 .given .1)
+returns-2 c = rw (c .before .step3 .given .1)
 
 returns-3 : tie.Need-returns-3
 unfolding siteVisited
-returns-3 c = rw (c .before .step3 .given .1)
-
--- no such step
-other : (t : Step) → OneOf (2 ∷ 3 ∷ 4 ∷ 5 ∷ 6 ∷ []) (tagOf T.the-type t) → 0 ≡ siteVisited t
-unfolding siteVisited
-other (Issue i u n) k = absurd (miss (2 ∷ 3 ∷ 4 ∷ 5 ∷ 6 ∷ []) 0 tt k)
-other (Retry i) k = absurd (miss (2 ∷ 3 ∷ 4 ∷ 5 ∷ 6 ∷ []) 1 tt k)
-other (Send i) k = refl
-other (ArriveMemory p) k = refl
-other Serve k = refl
-other SendBack k = refl
-other (ArriveSite p) k = refl
-other (Take i) k = absurd (miss (2 ∷ 3 ∷ 4 ∷ 5 ∷ 6 ∷ []) 7 tt k)
+returns-3 c = rw (c .before .step2 .given .1)
 
 returns-4 : tie.Need-returns-4
-returns-4 c = other (c .before .args .step) (c .match .keys4)
+unfolding siteVisited
+returns-4 c = rw (c .before .step .given .1)
 
 pub site-visited-spec : {M : Type 1} → statement M
 site-visited-spec =
