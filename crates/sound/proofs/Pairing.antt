@@ -38,8 +38,8 @@ record Counts (x : Site) : Type 0 where
   pub pends : x .pends ≤ 5
   pub out : x .outgoing .count ≤ 5
   pub inc : x .incoming .count ≤ 5
-  pub out-places : x .outgoing .count ≤ length (x .outgoing .items)
-  pub inc-places : x .incoming .count ≤ length (x .incoming .items)
+  out-places : x .outgoing .count ≤ length (x .outgoing .items)
+  inc-places : x .incoming .count ≤ length (x .incoming .items)
 
 module _ (s : System) (h : Fitting s) where
   the-limits : Limits (s .sizes)

@@ -27,7 +27,7 @@ pub fn entry_put(p: Pends, e: Entry) -> Pends
     next
 }
 
-// Where the first entry for the line is; the count where there is none.
+// Where the first entry for the line is; where there is none, the count, or 5 if that is less.
 pub fn entry_for(p: Pends, line: u8) -> usize
     ensures { λ r. ⌜ r ≡ firstAt (λ e. eqb (e .line) line) (p .count) (p .entries) ⌝ }
 {

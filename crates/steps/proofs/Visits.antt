@@ -121,7 +121,7 @@ module _ (s : System) (i : ℕ) (x : Here) (h : siteAt s i ≡ siteOf x) (z : Si
 
       module _ (g : tagFree (siteOf x) t ≡ true) (w : Waiting) (k : w ≡ waitingOf z t a) where
         -- the instruction as it waits
-        pub waits-as : w ≡ asWaiting (s .sizes) t n
+        waits-as : w ≡ asWaiting (s .sizes) t n
         waits-as = rw (d, sym e) at k
 
         pub out-of-order : mayIssue (siteOf x) w ≡ false → laid s i (record { outcome = Refused MayNotIssue; here = x }) ≡ I
