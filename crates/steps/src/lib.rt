@@ -24,7 +24,7 @@ use visit::site_visited;
 use visit::visit;
 
 // A step of a sound state. It asks for soundness and does not look: what it leaves is sound again, so whoever steps on need not look either.
-// It alone holds a System, since each function that takes one and gives one back costs two copies of it; hence its length. What is no step of the kind
+// It alone holds a System, since each function that takes one and gives one back costs up to two copies of it; hence its length. What is no step of the kind
 // looked for leaves by `else`, so the kinds' bodies stand in the reverse order of their heads.
 pub fn step_sound(mut s: System, x: Step) -> After
     requires { ⌜ sound s ≡ true ⌝ }
