@@ -1,6 +1,6 @@
 -- Document 01, "The record": what a record is, what reading gives, and what writing leaves.
 use mathlib.Core.List.{List, [], _∷_, _++_}
-use mathlib.Core.Bool.{cond}
+use mathlib.Core.Bool.{_||_, cond}
 use Prim.Native.Nat.{ℕ, _+_}
 use lib.Dec.{leb, eqb}
 use lib.ListN.{length, getD}
@@ -12,7 +12,6 @@ use Rattle.model.specs.declared.Instruction.{Instruction}
 use Rattle.model.specs.declared.Instruction.the-variants.{Loadl, Storel, Commit, Reconcile, FenceRr, FenceRw, FenceWr, FenceWw}
 use Rattle.model.specs.declared.Step.{Step}
 use Rattle.model.specs.declared.Step.the-variants.{Issue, Retry, Send, ArriveMemory, Serve, SendBack, ArriveSite, Take}
-use Rattle.model.specs.declared.Refusal.{Refusal}
 use Rattle.model.specs.declared.Refusal.the-variants.{NoRecord, BufferShort, SizeOutside, RecordLong}
 use Rattle.model.specs.declared.ReadSizes.{ReadSizes}
 use Rattle.model.specs.declared.ReadSizes.the-variants.{Sized, NoSizes}
@@ -144,20 +143,25 @@ readIssue bs at =
           ]
     ]
 
-abbrev pub oneField : List ℕ → ℕ → (ℕ → Step) → ReadStep
-oneField bs at make = elim (readNumber mostNumber bs at) [ Fault place ↦ NoStep (NoRecord place) | Number v next ↦ One (make v) next ]
+-- the step of a number from 1 to 7, with its site or position, if it has one
+unfoldable pub moveOf : ℕ → ℕ → Step
+moveOf k v =
+    cond (eqb k 1) (Retry v)
+    (cond (eqb k 2) (Send v)
+    (cond (eqb k 3) (ArriveMemory v)
+    (cond (eqb k 4) Serve
+    (cond (eqb k 5) SendBack
+    (cond (eqb k 6) (ArriveSite v) (Take v))))))
+
+-- the others have their site or position, if any: serve and send-back have none
+unfoldable pub readMove : List ℕ → ℕ → ℕ → ReadStep
+readMove bs k at =
+    cond (eqb k 4 || eqb k 5) (One (moveOf k 0) at)
+    (elim (readNumber mostNumber bs at) [ Fault place ↦ NoStep (NoRecord place) | Number v next ↦ One (moveOf k v) next ])
 
 -- the fields of a step of kind k, behind its number at `start`. A step number above 7 is a fault at its first byte.
 unfoldable pub readFields : List ℕ → ℕ → ℕ → ℕ → ReadStep
-readFields bs start k at =
-    cond (eqb k 0) (readIssue bs at)
-    (cond (eqb k 1) (oneField bs at Retry)
-    (cond (eqb k 2) (oneField bs at Send)
-    (cond (eqb k 3) (oneField bs at ArriveMemory)
-    (cond (eqb k 4) (One Serve at)
-    (cond (eqb k 5) (One SendBack at)
-    (cond (eqb k 6) (oneField bs at ArriveSite)
-    (cond (eqb k 7) (oneField bs at Take) (NoStep (NoRecord start)))))))))
+readFields bs start k at = cond (leb k 7) (cond (eqb k 0) (readIssue bs at) (readMove bs k at)) (NoStep (NoRecord start))
 
 unfoldable pub stepAt : List ℕ → ℕ → ReadStep
 stepAt bs at = elim (readNumber mostNumber bs at) [ Fault place ↦ NoStep (NoRecord place) | Number k next ↦ readFields bs at k next ]
@@ -176,21 +180,21 @@ pub record Written : Type 0 where
   pub wrote : Wrote
   pub buffer : List ℕ
 
-abbrev pub notWritten : Refusal → List ℕ → Written
-notWritten r buf = record { wrote = NotWritten r; buffer = buf }
+abbrev pub written : Wrote → List ℕ → Written
+written w buf = record { wrote = w; buffer = buf }
 
 -- some bytes at an offset: 13 where the record would end past its most, 11 where the buffer ends before it
 unfoldable pub writtenTo : ℕ → List ℕ → List ℕ → ℕ → Written
 writtenTo end new buf at =
-    cond (leb end mostBytes) (cond (leb end (length buf)) (record { wrote = Past end; buffer = sets buf at new }) (notWritten BufferShort buf))
-    (notWritten RecordLong buf)
+    cond (leb end mostBytes) (cond (leb end (length buf)) (written (Past end) (sets buf at new)) (written (NotWritten BufferShort) buf))
+    (written (NotWritten RecordLong) buf)
 
 abbrev pub writtenAt : List ℕ → List ℕ → ℕ → Written
 writtenAt new buf at = writtenTo (at + length new) new buf at
 
 -- The writer looks at 12, then 13, then 11.
 unfoldable pub writeSizes : Sizes → List ℕ → Written
-writeSizes z buf = cond (inLimits z) (writtenAt (sizesBytes z) buf 0) (notWritten SizeOutside buf)
+writeSizes z buf = cond (inLimits z) (writtenAt (sizesBytes z) buf 0) (written (NotWritten SizeOutside) buf)
 
 unfoldable pub writeStep : Step → List ℕ → ℕ → Written
 writeStep x buf at = writtenAt (stepBytes x) buf at

@@ -4,7 +4,8 @@ use mathlib.Core.List.{List, [], _∷_}
 use mathlib.Core.Bool.{Bool, true, false, _||_, cond}
 use Prim.Native.Nat.{ℕ, zero, suc, _+_, _-_, _*_, _/_, _%_}
 use lib.Dec.{leb, ltb}
-use lib.ListN.{drop}
+use lib.ListN.{length, drop}
+use lib.Seq.{sets}
 use Rattle.numbers.specs.declared.Got.{Got}
 use Rattle.numbers.specs.declared.Got.the-variants.{Number, Fault}
 
@@ -48,3 +49,20 @@ limited most at fault = Fault at
 -- the number at an offset of the bytes, for a field of which so much is the most
 unfoldable pub readNumber : ℕ → List ℕ → ℕ → Got
 readNumber most bs at = limited most at (decoded mostGroups true (drop at bs))
+
+-- WRITING INTO A BUFFER
+
+-- the offset past what was written, and the buffer after it
+pub record Put : Type 0 where
+  pub past : ℕ
+  pub buffer : List ℕ
+
+abbrev pub putTo : ℕ → List ℕ → Put
+putTo past buffer = record { past = past; buffer = buffer }
+
+-- some bytes at an offset of a buffer; nothing is written where they have no room
+unfoldable pub putBytes : List ℕ → List ℕ → ℕ → Put
+putBytes new buf at = cond (leb (at + length new) (length buf)) (putTo (at + length new) (sets buf at new)) (putTo at buf)
+
+abbrev pub writeNumber : ℕ → List ℕ → ℕ → Put
+writeNumber n buf at = putBytes (bytesOf n) buf at

@@ -1,22 +1,28 @@
 -- What is promised: demands 1 to 3 of document 01 over the definitions. Each statement's proof stands in proofs/Demands.antt.
 use mathlib.Core.Path.{_≡_}
-use mathlib.Core.Logic.{_↔_}
-use mathlib.Core.List.{List, [], List·Memᴰ}
+use mathlib.Core.Logic.{_↔_, _⊎_}
+use mathlib.Core.List.{List, [], _++_, List·Memᴰ}
 use mathlib.Core.Bool.{Bool, true, not}
 use Prim.Native.Nat.{ℕ, _+_, _*_, _≤_, _<_, min}
 use lib.Dec.{T}
-use lib.ListN.{length}
+use lib.ListN.{length, drop, getD}
 use Rattle.lists.specs.Places.{count, each}
 use Rattle.model.specs.declared.Sizes.{Sizes}
 use Rattle.model.specs.declared.System.{System}
 use Rattle.model.specs.declared.Step.{Step}
-use Rattle.model.specs.Limits.{mayBeFresh, mostDrain}
+use Rattle.model.specs.declared.Refusal.{Refusal}
+use Rattle.model.specs.declared.Refusal.the-variants.{NoRecord, RecordLong}
+use Rattle.model.specs.declared.ReadStep.the-variants.{One}
+use Rattle.model.specs.declared.Wrote.the-variants.{Past, NotWritten}
+use Rattle.model.specs.Limits.{inLimits, mayBeFresh, mostDrain}
 use Rattle.model.specs.Fresh.{freshOf, blank}
 use Rattle.model.specs.Parts.{siteAt}
 use Rattle.model.specs.Sound.{sound, underWay}
 use Rattle.model.specs.Steps.{stepped, isDone}
-use Rattle.model.specs.Record.{stepsBytes}
+use Rattle.model.specs.Given.{mostBytes}
+use Rattle.model.specs.Record.{stepsBytes, recordOf, readStep, Written, written, writeSizes, writeStep}
 use Rattle.model.specs.Drain.{candidatesOf, quiet, drained, drainOf}
+use Rattle.promises.specs.Reading.{bytes, recordable, Ending, whole, broken, Reading, IsRecord, Read, writeRecord}
 use Rattle.promises.specs.Runs.{afterRun, accepted, isMove, issuesTrip, issuesReconcile, sameMove, events, free, alternate, isIssued, isAnswered}
 
 -- a step that the state refuses
@@ -123,3 +129,58 @@ pub record Roomy (s : System) : Type 0 where
 -- The size of every queue stays within its room.
 abbrev pub RunRoomy : Type 0
 RunRoomy = (z : Sizes) → T (mayBeFresh z) → (xs : List Step) → Roomy (run z xs)
+
+-- THE RECORD
+
+-- With sizes in their limits every list of steps has a record, where that is at most 65,536 bytes long: `recordOf`, and reading it returns the
+-- sizes and that list, then "end".
+abbrev pub RecordRead : Type 0
+RecordRead =
+    (z : Sizes) (xs : List Step) → T (inLimits z) → T (each recordable xs) → length (recordOf z xs) ≤ mostBytes → IsRecord (recordOf z xs) z xs
+
+-- some bytes are the record of sizes in their limits and of a list of steps
+pub record RecordOf (bs : List ℕ) (z : Sizes) (xs : List Step) : Type 0 where
+  pub record-bytes : bs ≡ recordOf z xs
+  pub limits : T (inLimits z)
+  pub numbers : T (each recordable xs)
+  pub short : length bs ≤ mostBytes
+
+-- Exactly one: any bytes that read to the end without a fault are the record of what was read.
+abbrev pub RecordOnly : Type 0
+RecordOnly = (bs : List ℕ) → T (bytes bs) → (z : Sizes) (xs : List Step) → IsRecord bs z xs → RecordOf bs z xs
+
+-- Reading has one outcome: no bytes are the record of two lists of steps, or of a list and refused.
+abbrev pub ReadOnce : Type 0
+ReadOnce = (bs : List ℕ) (at : ℕ) (xs ys : List Step) (e f : Ending) → Reading bs at xs e → Reading bs at ys f → (xs ≡ ys) × (e ≡ f)
+
+-- And it has always one: each step read ends behind its start and within the bytes, so that the reading ends.
+abbrev pub ReadOn : Type 0
+ReadOn = (bs : List ℕ) (at next : ℕ) (x : Step) → readStep bs at ≡ One x next → (at < next) × (next ≤ length bs)
+
+abbrev pub ReadAnswered : Type 0
+ReadAnswered = (bs : List ℕ) → Read bs
+
+-- a refusal by the reader of steps: 13, or 10 with a place among the bytes or at their end
+pub data Faulty (bs : List ℕ) : Refusal → Type 0 where
+  tooLong : mostBytes < length bs → Faulty bs RecordLong
+  faultAt : (place : ℕ) → place ≤ length bs → Faulty bs (NoRecord place)
+
+-- Bytes that are no record are refused with the place.
+abbrev pub ReadFault : Type 0
+ReadFault = (bs : List ℕ) (at : ℕ) (xs : List Step) (r : Refusal) → at ≤ length bs → Reading bs at xs (broken r) → Faulty bs r
+
+-- Writing sizes and steps one after the other gives the record; what stood behind it stays.
+abbrev pub RecordWritten : Type 0
+RecordWritten =
+    (z : Sizes) (xs : List Step) (buf : List ℕ) → T (inLimits z) → length (recordOf z xs) ≤ mostBytes → length (recordOf z xs) ≤ length buf →
+    writeRecord z xs buf ≡ written (Past (length (recordOf z xs))) (recordOf z xs ++ drop (length (recordOf z xs)) buf)
+
+-- a buffer after a write at an offset: a refused write altered no byte, an accepted one only its own
+pub record Kept (at : ℕ) (before : List ℕ) (after : Written) : Type 0 where
+  pub length-kept : length (after .buffer) ≡ length before
+  pub refused-kept : (r : Refusal) → after .wrote ≡ NotWritten r → after .buffer ≡ before
+  pub others-kept : (end i : ℕ) → after .wrote ≡ Past end → (i < at) ⊎ (end ≤ i) → getD (after .buffer) i 0 ≡ getD before i 0
+
+abbrev pub WriteKeeps : Type 0
+WriteKeeps =
+    ((z : Sizes) (buf : List ℕ) → Kept 0 buf (writeSizes z buf)) × ((x : Step) (buf : List ℕ) (at : ℕ) → Kept at buf (writeStep x buf at))
