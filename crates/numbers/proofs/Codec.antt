@@ -71,7 +71,7 @@ pub record Was (g : ℕ) (first : Bool) (bs : List ℕ) (n k : ℕ) : Type 0 whe
   pub below : n < 128 ^ g
   pub shortest : (first || ltb 0 n) ≡ true
 
-never : {n k : ℕ} → fault ≡ number n k → ⊥
+pub never : {n k : ℕ} → fault ≡ number n k → ⊥
 never e = let z : _≡_ {A = ℕ} 0 1 = cc in omega arith
 
 some-groups : (g : ℕ) → 0 < 128 ^ g
