@@ -23,4 +23,6 @@ pub mod Quiet
 pub mod Drain
 pub mod Answers
 pub mod Alternate
+pub mod InTurn
+pub mod Endings
 pub mod Demands
