@@ -17,7 +17,7 @@ use Rattle.model.specs.Parts.{siteAt}
 use Rattle.model.specs.Sound.{request, reply, ofSite, messageFits, siteQueueFits, sound}
 use Rattle.model.specs.Steps.{stepOf, stepped, isDone}
 use Rattle.model.specs.Drain.{accepts, candidatesOf, quiet, drained, drainOf}
-use Rattle.promises.specs.Promises.{refuses, run, FreshSound, StepSound, RunSound, RefusedStays, RunBound, QuietMeans, QuietEmpty, Alternating, AllAnswered, MovesMost, DrainQuiet, DrainSteps, DrainFits, ChoicesMost, Roomy, RunRoomy, ReadOnce, ReadOn, ReadAnswered, ReadFault}
+use Rattle.promises.specs.Promises.{refuses, run, FreshSound, StepSound, RunSound, RefusedStays, RunBound, QuietMeans, QuietEmpty, Alternating, AllAnswered, MovesMost, DrainQuiet, DrainSteps, DrainFits, ChoicesMost, Roomy, RunRoomy, RecordRead, RecordOnly, ReadOnce, ReadOn, ReadAnswered, ReadFault, RecordWritten, WriteKeeps}
 use Rattle.promises.proofs.Queues.{queue-most}
 use Rattle.promises.proofs.Sound.{Sound, opened, closed}
 use Rattle.promises.proofs.Room.{the-limits, ready, net-places}
@@ -29,7 +29,10 @@ use Rattle.promises.proofs.Quiet.{quiet-all, all-quiet, quiet-none}
 use Rattle.promises.proofs.Drain.{drained-always, drained-leaves, drained-bytes}
 use Rattle.promises.proofs.Alternate.{alternates, all-answered}
 use Rattle.promises.proofs.Choices.{choices, accepted-candidate, candidates-once}
+use Rattle.promises.proofs.ReadBack.{read-back}
+use Rattle.promises.proofs.ReadOff.{read-off}
 use Rattle.promises.proofs.Endings.{step-on, all-read, same-reading, fault-placed}
+use Rattle.promises.proofs.Writes.{record-put, writes-keep}
 
 -- SOUND
 
@@ -150,6 +153,12 @@ run-roomy z t xs = roomy (run z xs) (run-kept (blank z) (fresh-sound z t) xs)
 
 -- THE RECORD
 
+pub record-read : RecordRead
+record-read = read-back
+
+pub record-only : RecordOnly
+record-only = read-off
+
 pub read-once : ReadOnce
 read-once = same-reading
 
@@ -161,3 +170,9 @@ read-answered = all-read
 
 pub read-fault : ReadFault
 read-fault = fault-placed
+
+pub record-written : RecordWritten
+record-written = record-put
+
+pub write-keeps : WriteKeeps
+write-keeps = writes-keep

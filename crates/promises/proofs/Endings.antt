@@ -1,51 +1,31 @@
 -- Readings end: each step read ends behind its start, so that every reading has one ending, and a refusal has its place.
-use mathlib.Core.Path.{_≡_, refl, ap, subst}
+use mathlib.Core.Path.{_≡_, refl, subst}
 use mathlib.Core.List.{List, [], _∷_}
 use Prim.Native.Nat.{ℕ, zero, suc, _+_, _≤_, _<_}
 use native.Mathlib.Omega.{arith}
 use lib.ListN.{length}
 use Rattle.model.specs.declared.Sizes.{Sizes}
 use Rattle.model.specs.declared.Step.{Step}
-use Rattle.model.specs.declared.Step.the-variants.{Issue, Retry, Send, ArriveMemory, Serve, SendBack, ArriveSite, Take}
-use Rattle.model.specs.declared.Refusal.{Refusal}
 use Rattle.model.specs.declared.ReadSizes.{ReadSizes}
 use Rattle.model.specs.declared.ReadSizes.the-variants.{Sized, NoSizes}
 use Rattle.model.specs.declared.ReadStep.{ReadStep}
 use Rattle.model.specs.declared.ReadStep.the-variants.{One, End, NoStep}
-use Rattle.model.specs.Record.{mostNumber, numbersOf, readSizes, readStep}
+use Rattle.model.specs.Record.{readSizes, readStep}
 use Rattle.promises.specs.Reading.{Ending, whole, broken, Reading, ended, stopped, further, Read, asRecord, sizesRefused, stepRefused}
-use Rattle.promises.specs.Promises.{Faulty}
-use Rattle.promises.proofs.InTurn.{found, InTurn, noMore, oneMore, told}
+use Rattle.promises.specs.Promises.{ReadOnce, ReadOn, ReadAnswered, ReadFault}
+use Rattle.promises.proofs.Readers.{step-says, step-numbers, step-within}
 
--- ON
+-- BEHIND ITS START
 
-some-numbers : (x : Step) → 1 ≤ length (numbersOf x)
-unfolding numbersOf
-some-numbers (Issue i t n) = omega arith
-some-numbers (Retry i) = omega arith
-some-numbers (Send i) = omega arith
-some-numbers (ArriveMemory p) = omega arith
-some-numbers Serve = omega arith
-some-numbers SendBack = omega arith
-some-numbers (ArriveSite p) = omega arith
-some-numbers (Take i) = omega arith
-
--- numbers end behind their start and within the bytes
-turn-on : (bs : List ℕ) (at : ℕ) (vs : List ℕ) (end : ℕ) → InTurn bs at vs end → 1 ≤ length vs → (at < end) × (end ≤ length bs)
-turn-on bs at vs end (noMore a) l = absurd (omega (arith, l))
-turn-on bs at vs end (oneMore a v next ws b e (noMore c)) l = omega (arith, found mostNumber bs a e)
-turn-on bs at vs end (oneMore a v next ws b e (oneMore c w after us d f r)) l =
-    omega (arith, found mostNumber bs a e, turn-on bs c ws d (oneMore c w after us d f r) (omega arith))
-
-pub step-on : (bs : List ℕ) (at next : ℕ) (x : Step) → readStep bs at ≡ One x next → (at < next) × (next ≤ length bs)
-step-on bs at next x e = turn-on bs at (numbersOf x) next (rw e at (told bs at)) (some-numbers x)
+pub step-on : ReadOn
+step-on bs at next x e = step-within bs at x next (step-numbers bs at e)
 
 -- AN ENDING
 
-pub record Ends (bs : List ℕ) (at : ℕ) : Type 0 where
-  pub steps : List Step
-  pub ending : Ending
-  pub reading : Reading bs at steps ending
+record Ends (bs : List ℕ) (at : ℕ) : Type 0 where
+  steps : List Step
+  ending : Ending
+  reading : Reading bs at steps ending
 
 ends-by : (bs : List ℕ) (at : ℕ) → ((next : ℕ) → (at < next) × (next ≤ length bs) → Ends bs next) → (r : ReadStep) → readStep bs at ≡ r → Ends bs at
 ends-by bs at more (One x next) e =
@@ -59,7 +39,7 @@ ends : (bs : List ℕ) (left at : ℕ) → length bs ≤ at + left → Ends bs a
 ends bs zero at l = ends-by bs at (λ next on. absurd (omega (arith, on, l))) (readStep bs at) refl
 ends bs (suc left) at l = ends-by bs at (λ next on. ends bs left next (omega (arith, on, l))) (readStep bs at) refl
 
-pub all-read : (bs : List ℕ) → Read bs
+pub all-read : ReadAnswered
 all-read bs = go (readSizes bs) refl
   where
     by-ending : (z : Sizes) (past : ℕ) → readSizes bs ≡ Sized z past → (xs : List Step) (e : Ending) → Reading bs past xs e → Read bs
@@ -73,7 +53,7 @@ all-read bs = go (readSizes bs) refl
 
 -- THE ONE ENDING
 
-pub same-reading : (bs : List ℕ) (at : ℕ) (xs ys : List Step) (e f : Ending) → Reading bs at xs e → Reading bs at ys f → (xs ≡ ys) × (e ≡ f)
+pub same-reading : ReadOnce
 same-reading bs at xs ys e f (ended a p) (ended b q) = (refl, refl)
 same-reading bs at xs ys e f (ended a p) (stopped b r q) = (cc, cc)
 same-reading bs at xs ys e f (ended a p) (further b next y zs g q v) = (cc, cc)
@@ -89,6 +69,6 @@ same-reading bs at xs ys e f (further a next x ws h p u) (further b after y zs g
 
 -- ITS PLACE
 
-pub fault-placed : (bs : List ℕ) (at : ℕ) (xs : List Step) (r : Refusal) → at ≤ length bs → Reading bs at xs (broken r) → Faulty bs r
-fault-placed bs at xs r l (stopped a s e) = rw e at (told bs at) l
+pub fault-placed : ReadFault
+fault-placed bs at xs r l (stopped a s e) = rw e at (step-says bs at) l
 fault-placed bs at xs r l (further a next x ys f e u) = fault-placed bs next ys r (step-on bs at next x e .1) u

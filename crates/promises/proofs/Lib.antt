@@ -24,5 +24,9 @@ pub mod Drain
 pub mod Answers
 pub mod Alternate
 pub mod InTurn
+pub mod Readers
+pub mod ReadBack
+pub mod ReadOff
 pub mod Endings
+pub mod Writes
 pub mod Demands

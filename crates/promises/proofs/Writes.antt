@@ -1,0 +1,84 @@
+-- What the writers leave: a record's bytes where they were put, and all other bytes as they were.
+use mathlib.Core.Path.{_≡_, refl, _∙_}
+use mathlib.Core.Logic.{_⊎_, inl, inr}
+use mathlib.Core.List.{List, [], _∷_, _++_, append-nil}
+use Prim.Native.Nat.{ℕ, suc, _+_, _≤_, _<_}
+use native.Mathlib.Nat.{zero-add, add-zero, add-assoc}
+use native.Mathlib.Omega.{arith}
+use lib.Dec.{leb}
+use lib.ListN.{length, set, getD, length-append}
+use lib.Seq.{sets, length-sets, sets-eq, getD-set-other}
+use borrow.Author.Tests.{le-leb}
+use Rattle.lists.proofs.Tests.{by-cond, T-true}
+use Rattle.model.specs.declared.Step.{Step}
+use Rattle.model.specs.declared.Refusal.{Refusal}
+use Rattle.model.specs.declared.Refusal.the-variants.{BufferShort, SizeOutside, RecordLong}
+use Rattle.model.specs.declared.Wrote.the-variants.{Past, NotWritten}
+use Rattle.model.specs.Given.{mostBytes}
+use Rattle.model.specs.Limits.{inLimits}
+use Rattle.model.specs.Record.{sizesBytes, stepBytes, stepsBytes, recordOf, written, writtenTo, writtenAt, writeSizes, writeStep}
+use Rattle.promises.specs.Reading.{writeSteps}
+use Rattle.promises.specs.Promises.{RecordWritten, Kept, WriteKeeps}
+
+-- ONE BEHIND THE OTHER
+
+sets-append : (a b l : List ℕ) (i : ℕ) → sets l i (a ++ b) ≡ sets (sets l i a) (i + length a) b
+sets-append [] b l i = rw add-zero
+sets-append (v ∷ a) b l i = let e : i + suc (length a) ≡ suc i + length a = omega arith in rw e (sets-append a b (set l i v) (suc i))
+
+written-at : (new buf : List ℕ) (at : ℕ) → at + length new ≤ mostBytes → at + length new ≤ length buf →
+    writtenAt new buf at ≡ written (Past (at + length new)) (sets buf at new)
+unfolding writtenTo
+written-at new buf at m l = rw (le-leb (at + length new) mostBytes m, le-leb (at + length new) (length buf) l)
+
+-- the steps, behind some bytes
+steps-written : (xs : List Step) (new buf : List ℕ) (at : ℕ) →
+    at + length (new ++ stepsBytes xs) ≤ mostBytes → at + length (new ++ stepsBytes xs) ≤ length buf →
+    writeSteps xs (writtenAt new buf at) ≡ written (Past (at + length (new ++ stepsBytes xs))) (sets buf at (new ++ stepsBytes xs))
+unfolding writeSteps writeStep stepsBytes
+steps-written [] new buf at m l = rw append-nil (written-at new buf at (rw append-nil at m) (rw append-nil at l))
+steps-written (x ∷ xs) new buf at m l =
+    let more : List ℕ = stepBytes x ++ stepsBytes xs in
+    let n : length (new ++ more) ≡ length new + length more = length-append new more in
+    rw (written-at new buf at (omega arith) (omega arith), n, ← add-assoc, sets-append new more)
+    (steps-written xs (stepBytes x) (sets buf at new) (at + length new) (omega arith) (omega (arith, length-sets buf at new)))
+
+pub record-put : RecordWritten
+unfolding writeSizes
+record-put z xs buf t m l =
+    rw (T-true (inLimits z) t, steps-written xs (sizesBytes z) buf 0 (omega arith) (omega arith), sets-eq (recordOf z xs) buf 0 (omega arith), zero-add)
+
+-- THE OTHER BYTES
+
+refusal-kept : (at : ℕ) (buf : List ℕ) (r : Refusal) → Kept at buf (written (NotWritten r) buf)
+refusal-kept at buf r = record { length-kept = refl; refused-kept = λ s e. refl; others-kept = λ end i e h. refl }
+
+-- a place before them, or past them
+sets-kept : (new buf : List ℕ) (at i : ℕ) → (at ≤ i → at + length new ≤ i) → getD (sets buf at new) i 0 ≡ getD buf i 0
+sets-kept [] buf at i h = refl
+sets-kept (v ∷ new) buf at i h =
+    sets-kept new (set buf at v) (suc at) i (λ k. omega (arith, h (omega arith))) ∙ getD-set-other buf at i v 0 (λ e. omega (arith, h (omega arith)))
+
+past : (at end i : ℕ) → (i < at) ⊎ (end ≤ i) → at ≤ i → end ≤ i
+past at end i (inl k) l = absurd (omega arith)
+past at end i (inr k) l = k
+
+at-kept : (new buf : List ℕ) (at : ℕ) → Kept at buf (writtenAt new buf at)
+unfolding writtenTo
+at-kept new buf at =
+    by-cond (Kept at buf) (leb (at + length new) mostBytes) _ _
+    (λ t. by-cond (Kept at buf) (leb (at + length new) (length buf)) _ _
+    (λ u. record {
+      length-kept = length-sets buf at new;
+      refused-kept = λ r e. cc;
+      others-kept = λ end i e h. let p : end ≡ at + length new = cc in sets-kept new buf at i (rw p at (past at end i h));
+    })
+    (λ u. refusal-kept at buf BufferShort))
+    (λ t. refusal-kept at buf RecordLong)
+
+pub writes-keep : WriteKeeps
+unfolding writeSizes writeStep
+writes-keep = (
+  λ z buf. by-cond (Kept 0 buf) (inLimits z) _ _ (λ t. at-kept (sizesBytes z) buf 0) (λ t. refusal-kept 0 buf SizeOutside),
+  λ x buf at. at-kept (stepBytes x) buf at,
+)
