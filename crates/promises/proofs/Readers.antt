@@ -28,6 +28,7 @@ use Rattle.promises.proofs.InTurn.{found, by-number, InTurn, noMore, on
 
 -- A LIST BY ITS PLACES
 
+-- the numbers of the first n places
 unfoldable placed : ℕ → (ℕ → ℕ) → List ℕ
 placed zero f = []
 placed (suc n) f = f 0 ∷ placed n (λ i. f (suc i))
@@ -45,6 +46,7 @@ by-places n vs e = rw (← e) (all vs)
 abbrev pub sixOf : Sizes → List ℕ
 sixOf z = z .sites ∷ z .words ∷ z .lines ∷ z .sets ∷ z .pend ∷ z .stall ∷ []
 
+-- the six are read first, in their limits, of bytes that are no more than a record's most
 pub record SizesRead (bs : List ℕ) (z : Sizes) (past : ℕ) : Type 0 where
   pub short : length bs ≤ mostBytes
   pub limits : T (inLimits z)
@@ -83,6 +85,7 @@ each-kind P p0 p1 p2 p3 p4 p5 p6 p7 (suc (suc (suc (suc (suc (suc (suc zero)))))
 each-kind P p0 p1 p2 p3 p4 p5 p6 p7 (suc (suc (suc (suc (suc (suc (suc (suc k)))))))) t =
     absurd (omega (arith, leb→le (suc (suc (suc (suc (suc (suc (suc (suc k)))))))) 7 t))
 
+-- each limit behind an instruction's number is the largest
 limits-most : (k : ℕ) → issueLimits k ≡ mosts (length (issueLimits k))
 unfolding issueLimits mosts
 limits-most k =
