@@ -8,3 +8,4 @@ pub mod Long
 pub mod Turns
 pub mod Shift
 pub mod Seek
+pub mod Stores

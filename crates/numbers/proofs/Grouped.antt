@@ -8,7 +8,7 @@ use native.Mathlib.Omega.{arith}
 use lib.Dec.{leb, ltb}
 use lib.ListN.{length, drop, getD, set, drop-of-length-le}
 use lib.Seq.{drop-cons, sets}
-use borrow.Author.Tests.{le-leb, lt-leb, leb-true, leb-false, lt-ltb, ltb-true, ltb-false}
+use borrow.Author.Tests.{lt-leb, leb-true, leb-false, ltb-true, ltb-false}
 use Rattle.numbers.specs.declared.Got.{Got}
 use Rattle.numbers.specs.declared.Got.the-variants.{Number, Fault}
 use Rattle.numbers.specs.Groups.{encoded, bytesOf, Decoded, number, fault, above, decoded, limited, Put, putTo}

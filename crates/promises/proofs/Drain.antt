@@ -4,17 +4,18 @@ use mathlib.Core.List.{List, [], _∷_}
 use mathlib.Core.Bool.{Bool, _&&_}
 use Prim.Native.Nat.{ℕ, zero, suc, _+_, _*_, _≤_, _<_, min}
 use native.Mathlib.Omega.{arith}
-use lib.Dec.{T, ltb, ltb→lt, lt→ltb}
+use lib.Dec.{T, ltb→lt}
 use lib.ListN.{length, length-append}
 use Rattle.lists.specs.Places.{each}
-use Rattle.lists.proofs.Tests.{and-l, and-r, both, by-cond, cond-T, ind-T}
+use Rattle.lists.proofs.Tests.{and-l, and-r, both, by-cond, ind-T}
+use Rattle.numbers.specs.Groups.{encoded}
+use Rattle.numbers.proofs.Grouped.{bytes-last}
 use Rattle.model.specs.declared.System.{System}
 use Rattle.model.specs.declared.After.{After}
 use Rattle.model.specs.declared.Step.{Step}
 use Rattle.model.specs.declared.Step.the-variants.{Issue, Retry, Send, ArriveMemory, Serve, SendBack, ArriveSite, Take}
 use Rattle.model.specs.Limits.{mostDrain}
 use Rattle.model.specs.Steps.{stepOf}
-use Rattle.numbers.specs.Groups.{encoded, bytesOf}
 use Rattle.model.specs.Record.{bytesOfAll, numbersOf, stepBytes, stepsBytes}
 use Rattle.model.specs.Drain.{accepts, quiet, tries, Choice, chosen, none, firstOf, nextStep, Taken, further, drained}
 use Rattle.promises.specs.Runs.{afterRun, accepted, isMove}
@@ -63,14 +64,9 @@ next s h = go (nextStep s) (pick s (tryOf s) (tries (s .sizes .sites)) (tries-na
 
 -- ITS BYTES
 
--- a number below 128 is one byte
-one-byte : (n : ℕ) → n < 128 → bytesOf n ≡ n ∷ []
-unfolding encoded
-one-byte n l = cond-T (ltb n 128) _ _ (lt→ltb n 128 l)
-
 two-numbers : (k n : ℕ) → k < 128 → n < 128 → length (bytesOfAll (k ∷ n ∷ [])) ≤ 2
 unfolding bytesOfAll
-two-numbers k n l m = rw (one-byte k l, one-byte n m) (omega arith)
+two-numbers k n l m = rw (bytes-last k l, bytes-last n m) (omega arith)
 
 two-bytes : (n : ℕ) → n ≤ 4 → (x : Step) → T (named n 1 1 x) → length (stepBytes x) ≤ 2
 unfolding named numbersOf bytesOfAll encoded

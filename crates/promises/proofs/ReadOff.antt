@@ -11,11 +11,12 @@ use Rattle.lists.specs.Places.{each}
 use Rattle.lists.proofs.Tests.{and-l, and-r, both}
 use Rattle.numbers.specs.Groups.{mostGroups, bytesOf}
 use Rattle.numbers.proofs.Codec.{Bytes, written-read}
+use Rattle.numbers.proofs.Found.{Found}
 use Rattle.model.specs.declared.Step.{Step}
 use Rattle.model.specs.Record.{mostNumber, bytesOfAll, numbersOf, sizesBytes, stepBytes, stepsBytes}
 use Rattle.promises.specs.Reading.{bytes, recordable, Ending, whole, Reading, ended, stopped, further}
 use Rattle.promises.specs.Promises.{RecordOnly}
-use Rattle.promises.proofs.InTurn.{Found, found, InTurn, noMore, oneMore}
+use Rattle.promises.proofs.InTurn.{found, InTurn, noMore, oneMore}
 use Rattle.promises.proofs.Readers.{sixOf, SizesRead, sizes-read, step-says, step-numbers}
 
 -- the places past the end are 0

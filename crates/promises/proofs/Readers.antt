@@ -2,6 +2,7 @@
 use mathlib.Core.Path.{_≡_, refl, ap}
 use mathlib.Core.List.{List, [], _∷_}
 use mathlib.Core.Bool.{cond}
+use mathlib.Core.Logic.{_⊎_, inl, inr}
 use Prim.Native.Nat.{ℕ, zero, suc, _≤_, _<_}
 use native.Mathlib.Omega.{arith}
 use lib.Dec.{T, leb, eqb, leb→le, nleb→lt, eqb→eq}
@@ -17,13 +18,13 @@ use Rattle.model.specs.declared.ReadStep.{ReadStep}
 use Rattle.model.specs.declared.ReadStep.the-variants.{One, End, NoStep}
 use Rattle.model.specs.declared.ReadSizes.{ReadSizes}
 use Rattle.model.specs.declared.ReadSizes.the-variants.{Sized, NoSizes}
-use Rattle.model.specs.declared.Refusal.the-variants.{NoRecord}
+use Rattle.model.specs.declared.Refusal.the-variants.{NoRecord, SizeOutside}
 use Rattle.model.specs.Given.{mostBytes}
 use Rattle.model.specs.Limits.{inLimits}
 use Rattle.model.specs.Kinds.{storel, reconcile}
 use Rattle.model.specs.Issue.{kindOf}
 use Rattle.model.specs.Record.{mostNumber, operands, numbersOf, Numbers, numbers, faultAt, readNumbers, sizesOf, sizesFrom, readSizes, issueLimits, instructionOf, issueFrom, readIssue, moveOf, readMove, readFields, stepAt, readStepOf, readStep}
-use Rattle.promises.specs.Promises.{Faulty, tooLong, faultAt}
+use Rattle.promises.specs.Promises.{Faulty, tooLong, faultAt, SizesFault}
 use Rattle.promises.proofs.InTurn.{found, by-number, InTurn, noMore, oneMore, mosts, NumbersSay, numbers-say}
 
 -- A LIST BY ITS PLACES
@@ -54,21 +55,24 @@ pub record SizesRead (bs : List ℕ) (z : Sizes) (past : ℕ) : Type 0 where
 
 abbrev SizesSay : List ℕ → ReadSizes → Type 0
 SizesSay bs (Sized z past) = SizesRead bs z past
-SizesSay bs (NoSizes r) = Unit {0}
+SizesSay bs (NoSizes r) = (r ≡ SizeOutside) ⊎ Faulty bs r
 
 sizes-say : (bs : List ℕ) → SizesSay bs (readSizes bs)
 unfolding readSizes sizesFrom placed mosts
 sizes-say bs =
     by-cond (SizesSay bs) (leb (length bs) mostBytes) _ _
-    (λ t. go (leb→le (length bs) mostBytes t) (readNumbers (mosts 6) bs 0) (numbers-say 6 bs 0)) (λ t. tt)
+    (λ t. go (leb→le (length bs) mostBytes t) (readNumbers (mosts 6) bs 0) (numbers-say 6 bs 0)) (λ t. inr (tooLong (nleb→lt (length bs) mostBytes t)))
   where
     go : length bs ≤ mostBytes → (r : Numbers) → NumbersSay 6 bs 0 r → SizesSay bs (sizesFrom r)
     go l (numbers vs past) h =
-        by-cond (SizesSay bs) (inLimits (sizesOf vs)) _ _ (λ t. record { short = l; limits = t; six = rw (by-places 6 vs (h .0)) (h .1) }) (λ t. tt)
-    go l (faultAt place) h = tt
+        by-cond (SizesSay bs) (inLimits (sizesOf vs)) _ _ (λ t. record { short = l; limits = t; six = rw (by-places 6 vs (h .0)) (h .1) }) (λ t. inl refl)
+    go l (faultAt place) h = inr (faultAt place (h (omega arith)))
 
 pub sizes-read : (bs : List ℕ) {z : Sizes} {past : ℕ} → readSizes bs ≡ Sized z past → SizesRead bs z past
 sizes-read bs e = rw e at (sizes-say bs)
+
+pub sizes-faulty : SizesFault
+sizes-faulty bs r e = rw e at (sizes-say bs)
 
 -- THE NUMBERS BEHIND A KIND
 

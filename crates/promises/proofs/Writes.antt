@@ -3,13 +3,14 @@ use mathlib.Core.Path.{_≡_, refl, _∙_}
 use mathlib.Core.Logic.{_⊎_, inl, inr}
 use mathlib.Core.List.{List, [], _∷_, _++_, append-nil}
 use Prim.Native.Nat.{ℕ, suc, _+_, _≤_, _<_}
-use native.Mathlib.Nat.{zero-add, add-zero, add-assoc}
+use native.Mathlib.Nat.{zero-add, add-assoc}
 use native.Mathlib.Omega.{arith}
 use lib.Dec.{leb}
 use lib.ListN.{length, set, getD, length-append}
 use lib.Seq.{sets, length-sets, sets-eq, getD-set-other}
 use borrow.Author.Tests.{le-leb}
 use Rattle.lists.proofs.Tests.{by-cond, T-true}
+use Rattle.lists.proofs.Stores.{sets-append}
 use Rattle.model.specs.declared.Step.{Step}
 use Rattle.model.specs.declared.Refusal.{Refusal}
 use Rattle.model.specs.declared.Refusal.the-variants.{BufferShort, SizeOutside, RecordLong}
@@ -21,10 +22,6 @@ use Rattle.promises.specs.Reading.{writeSteps}
 use Rattle.promises.specs.Promises.{RecordWritten, Kept, WriteKeeps}
 
 -- ONE BEHIND THE OTHER
-
-sets-append : (a b l : List ℕ) (i : ℕ) → sets l i (a ++ b) ≡ sets (sets l i a) (i + length a) b
-sets-append [] b l i = rw add-zero
-sets-append (v ∷ a) b l i = let e : i + suc (length a) ≡ suc i + length a = omega arith in rw e (sets-append a b (set l i v) (suc i))
 
 written-at : (new buf : List ℕ) (at : ℕ) → at + length new ≤ mostBytes → at + length new ≤ length buf →
     writtenAt new buf at ≡ written (Past (at + length new)) (sets buf at new)

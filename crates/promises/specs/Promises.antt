@@ -11,7 +11,8 @@ use Rattle.model.specs.declared.Sizes.{Sizes}
 use Rattle.model.specs.declared.System.{System}
 use Rattle.model.specs.declared.Step.{Step}
 use Rattle.model.specs.declared.Refusal.{Refusal}
-use Rattle.model.specs.declared.Refusal.the-variants.{NoRecord, RecordLong}
+use Rattle.model.specs.declared.Refusal.the-variants.{NoRecord, SizeOutside, RecordLong}
+use Rattle.model.specs.declared.ReadSizes.the-variants.{NoSizes}
 use Rattle.model.specs.declared.ReadStep.the-variants.{One}
 use Rattle.model.specs.declared.Wrote.the-variants.{Past, NotWritten}
 use Rattle.model.specs.Limits.{inLimits, mayBeFresh, mostDrain}
@@ -20,7 +21,7 @@ use Rattle.model.specs.Parts.{siteAt}
 use Rattle.model.specs.Sound.{sound, underWay}
 use Rattle.model.specs.Steps.{stepped, isDone}
 use Rattle.model.specs.Given.{mostBytes}
-use Rattle.model.specs.Record.{stepsBytes, recordOf, readStep, Written, written, writeSizes, writeStep}
+use Rattle.model.specs.Record.{stepsBytes, recordOf, readSizes, readStep, Written, written, writeSizes, writeStep}
 use Rattle.model.specs.Drain.{candidatesOf, quiet, drained, drainOf}
 use Rattle.promises.specs.Reading.{bytes, recordable, Ending, whole, broken, Reading, IsRecord, Read, writeRecord}
 use Rattle.promises.specs.Runs.{afterRun, accepted, isMove, issuesTrip, issuesReconcile, sameMove, events, free, alternate, isIssued, isAnswered}
@@ -160,12 +161,16 @@ ReadOn = (bs : List ℕ) (at next : ℕ) (x : Step) → readStep bs at ≡ One x
 abbrev pub ReadAnswered : Type 0
 ReadAnswered = (bs : List ℕ) → Read bs
 
--- a refusal by the reader of steps: 13, or 10 with a place among the bytes or at their end
+-- a refusal by a reader: 13, or 10 with a place among the bytes or at their end
 pub data Faulty (bs : List ℕ) : Refusal → Type 0 where
   tooLong : mostBytes < length bs → Faulty bs RecordLong
   faultAt : (place : ℕ) → place ≤ length bs → Faulty bs (NoRecord place)
 
--- Bytes that are no record are refused with the place.
+-- Bytes that are no record are refused with the place: by the reader of sizes, unless a size is outside its limits,
+abbrev pub SizesFault : Type 0
+SizesFault = (bs : List ℕ) (r : Refusal) → readSizes bs ≡ NoSizes r → (r ≡ SizeOutside) ⊎ Faulty bs r
+
+-- or by that of steps.
 abbrev pub ReadFault : Type 0
 ReadFault = (bs : List ℕ) (at : ℕ) (xs : List Step) (r : Refusal) → at ≤ length bs → Reading bs at xs (broken r) → Faulty bs r
 

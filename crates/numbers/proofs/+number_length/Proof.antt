@@ -1,13 +1,10 @@
-use Rattle.numbers.proofs.Grouped.{bytes-last, bytes-more, bytes-most}
-use Rattle.numbers.specs.Groups.{bytesOf}
-use mathlib.Core.Path.{_≡_, ap, sym}
-use lib.ListN.{length}
+use mathlib.Core.Path.{ap, sym}
+use Prim.Native.Nat.{_+_, _/_, ℕ, _<_}
 use native.Mathlib.Omega.{arith}
-use Prim.Native.Nat.{_+_, _/_, _≤_}
-use borrow.Author.Needs.{needs}
-use Prim.Native.Nat.{ℕ, _<_}
+use lib.ListN.{length}
 use borrow.Fn.Kinds.{In}
 use borrow.Fn.PlainCycle.{Measures, is, falls, and}
+use Rattle.numbers.proofs.Grouped.{bytes-last, bytes-more, bytes-most}
 use Rattle.numbers.proofs.number_length.Reads as number-length
 use Rattle.numbers.proofs.number_length.Kinds as number-length-kinds
 use Rattle.numbers.proofs.+number_length.Lts-number_length as number-length-lts

@@ -1,18 +1,14 @@
-use Prim.Native.Nat.{_+_}
-use Rattle.numbers.specs.Groups.{decoded}
 use mathlib.Core.Bool.{false}
-use lib.ListN.{drop, getD}
-use Rattle.numbers.proofs.Grouped.{limited-most, read-above}
-use Rattle.numbers.proofs.Grouped.{read-none, read-last, read-long, read-small}
-use Rattle.numbers.specs.Groups.{limited}
-use borrow.Author.Tests.{le-leb, lt-leb}
+use mathlib.Core.Path.{sym, _∙_}
+use Prim.Native.Nat.{_+_, _/_, ℕ, _<_}
 use native.Mathlib.Omega.{arith}
-use Prim.Native.Nat.{_/_, zero, suc}
-use mathlib.Core.Path.{_≡_, sym, _∙_}
+use lib.ListN.{drop}
+use borrow.Author.Tests.{le-leb, lt-leb}
 use borrow.Author.Needs.{needs}
-use Prim.Native.Nat.{ℕ, _<_}
 use borrow.Fn.Kinds.{In}
 use borrow.Fn.PlainCycle.{Measures, is, falls, and}
+use Rattle.numbers.specs.Groups.{decoded}
+use Rattle.numbers.proofs.Grouped.{limited-most, read-above, read-none, read-last, read-long, read-small}
 use Rattle.numbers.proofs.read_groups.Reads as read-groups
 use Rattle.numbers.proofs.read_groups.Kinds as read-groups-kinds
 use Rattle.numbers.proofs.+read_groups.Lts-read_groups as read-groups-lts

@@ -1,15 +1,10 @@
-use Rattle.numbers.proofs.Grouped.{put-more}
-use mathlib.Core.Path.{_∙_}
-use Prim.Native.Nat.{_+_, _%_}
-use Rattle.numbers.proofs.Grouped.{bytes-last, bytes-more, bytes-most}
-use lib.Seq.{length-sets}
-use lib.ListN.{length, length-set}
+use mathlib.Core.Path.{_∙_, ap}
+use Prim.Native.Nat.{_+_, _%_, ℕ, _<_}
 use native.Mathlib.Omega.{arith}
-use mathlib.Core.Path.{_≡_, ap, sym}
-use borrow.Author.Needs.{needs}
-use Prim.Native.Nat.{ℕ, _<_}
+use lib.ListN.{length, length-set}
 use borrow.Fn.Kinds.{In}
 use borrow.Fn.PlainCycle.{Measures, is, falls, and}
+use Rattle.numbers.proofs.Grouped.{put-more, bytes-last, bytes-more}
 use Rattle.numbers.proofs.write_groups.Reads as write-groups
 use Rattle.numbers.proofs.write_groups.Kinds as write-groups-kinds
 use Rattle.numbers.proofs.+write_groups.Lts-write_groups as write-groups-lts

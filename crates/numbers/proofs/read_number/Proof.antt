@@ -1,11 +1,8 @@
-use Rattle.numbers.specs.Groups.{readNumber}
 use native.Mathlib.Omega.{arith}
 use borrow.Author.Needs.{needs}
+use Rattle.numbers.specs.Groups.{readNumber}
 use Rattle.numbers.proofs.read_number.Statement.{statement}
 use Rattle.numbers.proofs.read_number.Tie as tie
-use Rattle.numbers.proofs.read_number.Reads as reads
-use Rattle.numbers.proofs.read_number.Lts as lts
-use Rattle.numbers.proofs.read_groups.Reads as read-groups-reads
 
 read-groups-requires : tie.Need-read-groups-requires
 read-groups-requires c κs = search needs

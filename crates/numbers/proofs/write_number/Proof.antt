@@ -1,16 +1,11 @@
-use Rattle.numbers.specs.Groups.{bytesOf, putBytes}
-use borrow.Author.Tests.{le-leb, lt-leb}
-use lib.ListN.{length}
-use native.Mathlib.Omega.{arith}
 use Prim.Native.Nat.{_+_}
-use mathlib.Core.Path.{_≡_}
+use native.Mathlib.Omega.{arith}
+use lib.ListN.{length}
+use borrow.Author.Tests.{le-leb, lt-leb}
 use borrow.Author.Needs.{needs}
+use Rattle.numbers.specs.Groups.{bytesOf, putBytes}
 use Rattle.numbers.proofs.write_number.Statement.{statement}
 use Rattle.numbers.proofs.write_number.Tie as tie
-use Rattle.numbers.proofs.write_number.Reads as reads
-use Rattle.numbers.proofs.write_number.Lts as lts
-use Rattle.numbers.proofs.number_length.Reads as number-length-reads
-use Rattle.numbers.proofs.write_groups.Reads as write-groups-reads
 
 number-length-requires : tie.Need-number-length-requires
 number-length-requires c κs = search needs

@@ -1,0 +1,106 @@
+-- What a row that was read says: the numbers behind an instruction's number, and the six sizes.
+use mathlib.Core.Path.{_≡_, refl, ap, sym}
+use mathlib.Core.List.{List}
+use mathlib.Core.Bool.{Bool, false, _&&_}
+use Prim.Native.Nat.{ℕ, zero, suc, _≤_, _<_, min}
+use native.Mathlib.Omega.{arith}
+use lib.Dec.{T, leb, eqb, leb→le, le→leb}
+use lib.ListN.{length, getD, take}
+use lib.Seq.{getD-take, take-all}
+use Rattle.lists.proofs.Tests.{by-test, T-true, F-false, and-l, and-r, same-test, both}
+use Rattle.model.specs.declared.Sizes.{Sizes}
+use Rattle.model.specs.declared.Step.the-variants.{Issue}
+use Rattle.model.specs.declared.ReadStep.{ReadStep}
+use Rattle.model.specs.declared.ReadStep.the-variants.{One}
+use Rattle.model.specs.Kinds.{storel, reconcile}
+use Rattle.model.specs.Limits.{within, inLimits}
+use Rattle.model.specs.Record.{numbers, issueLimits, instructionOf, issueFrom, sizesOf, sizedBy, sizesFrom}
+use Rattle.record.specs.Rows.{capped}
+
+-- AN ISSUE
+
+-- a second operand that the instruction does not have does not count
+one-operand : (k a b c : ℕ) → eqb k storel ≡ false → k ≤ reconcile → instructionOf k a b ≡ instructionOf k a c
+unfolding instructionOf
+one-operand zero a b c n l = refl
+one-operand (suc zero) a b c n l = cc
+one-operand (suc (suc zero)) a b c n l = refl
+one-operand (suc (suc (suc zero))) a b c n l = refl
+one-operand (suc (suc (suc (suc k)))) a b c n l = absurd (omega (arith, l))
+
+-- the tag and the operands stand at the first places
+pub issue-read : (i k n : ℕ) (ns : List ℕ) (past : ℕ) → n ≡ length (issueLimits k) →
+    issueFrom i k (numbers (take n ns) past) ≡ One (Issue i (getD ns 0 0) (instructionOf k (getD ns 1 0) (getD ns 2 0))) past
+unfolding issueFrom issueLimits
+issue-read i k n ns past e =
+    by-test (eqb k storel) (λ t. three (rw (T-true (eqb k storel) t) at e))
+    (λ t. by-test (leb k reconcile) (λ u. two (F-false (eqb k storel) t) (leb→le k reconcile u) (rw (F-false (eqb k storel) t, T-true (leb k reconcile) u) at e))
+    (λ u. three (rw (F-false (eqb k storel) t, F-false (leb k reconcile) u) at e)))
+  where
+    there : (m j : ℕ) → n ≡ m → j < m → getD (take n ns) j 0 ≡ getD ns j 0
+    there m j f l = getD-take n ns j 0 (omega arith)
+
+    made : ℕ → ℕ → ℕ → ReadStep
+    made t a b = One (Issue i t (instructionOf k a b)) past
+
+    three : n ≡ 3 → made (getD (take n ns) 0 0) (getD (take n ns) 1 0) (getD (take n ns) 2 0) ≡ made (getD ns 0 0) (getD ns 1 0) (getD ns 2 0)
+    three f = rw (there 3 0 f (omega arith), there 3 1 f (omega arith), there 3 2 f (omega arith))
+
+    two : eqb k storel ≡ false → k ≤ reconcile → n ≡ 2 → made (getD (take n ns) 0 0) (getD (take n ns) 1 0) (getD (take n ns) 2 0) ≡ made (getD ns 0 0) (getD ns 1 0) (getD ns 2 0)
+    two p q f =
+        rw (there 2 0 f (omega arith), there 2 1 f (omega arith)) (ap (λ m. One (Issue i (getD ns 0 0) m) past) (one-operand k (getD ns 1 0) (getD (take n ns) 2 0) (getD ns 2 0) p q))
+
+-- SIZES
+
+-- a limit below 255 tells a number from another no better than what is cut at 255
+cut-within : (most n : ℕ) → most < 255 → within most (min n 255) ≡ within most n
+cut-within most n l =
+    same-test (within most (min n 255)) (within most n)
+    (λ t. both (leb 1 n) (leb n most) (le→leb 1 n (omega (arith, low t))) (le→leb n most (omega (arith, high t))))
+    (λ t. both (leb 1 (min n 255)) (leb (min n 255) most) (le→leb 1 (min n 255) (omega (arith, leb→le 1 n (and-l (leb 1 n) (leb n most) t)))) (le→leb (min n 255) most (omega (arith, leb→le n most (and-r (leb 1 n) (leb n most) t)))))
+  where
+    low : T (within most (min n 255)) → 1 ≤ min n 255
+    low t = leb→le 1 (min n 255) (and-l (leb 1 (min n 255)) (leb (min n 255) most) t)
+
+    high : T (within most (min n 255)) → min n 255 ≤ most
+    high t = leb→le (min n 255) most (and-r (leb 1 (min n 255)) (leb (min n 255) most) t)
+
+module _ (ns : List ℕ) where
+  limits-same : inLimits (capped ns) ≡ inLimits (sizesOf ns)
+  unfolding inLimits
+  limits-same =
+      rw (
+        cut-within 4 (getD ns 0 0) (omega arith),
+        cut-within 4 (getD ns 1 0) (omega arith),
+        cut-within 16 (getD ns 2 0) (omega arith),
+        cut-within 8 (getD ns 3 0) (omega arith),
+        cut-within 5 (getD ns 4 0) (omega arith),
+        cut-within 8 (getD ns 5 0) (omega arith),
+      )
+
+  sizes-same : T (inLimits (sizesOf ns)) → capped ns ≡ sizesOf ns
+  unfolding inLimits
+  sizes-same t =
+      let w : ℕ → ℕ → Bool = λ most i. within most (getD ns i 0) in
+      let five = and-l (w 4 0 && w 4 1 && w 16 2 && w 8 3 && w 5 4) (w 8 5) t in
+      let four = and-l (w 4 0 && w 4 1 && w 16 2 && w 8 3) (w 5 4) five in
+      let three = and-l (w 4 0 && w 4 1 && w 16 2) (w 8 3) four in
+      let two = and-l (w 4 0 && w 4 1) (w 16 2) three in
+      rw (
+        cut 4 0 (omega arith) (and-l (w 4 0) (w 4 1) two),
+        cut 4 1 (omega arith) (and-r (w 4 0) (w 4 1) two),
+        cut 16 2 (omega arith) (and-r (w 4 0 && w 4 1) (w 16 2) three),
+        cut 8 3 (omega arith) (and-r (w 4 0 && w 4 1 && w 16 2) (w 8 3) four),
+        cut 5 4 (omega arith) (and-r (w 4 0 && w 4 1 && w 16 2 && w 8 3) (w 5 4) five),
+        cut 8 5 (omega arith) (and-r (w 4 0 && w 4 1 && w 16 2 && w 8 3 && w 5 4) (w 8 5) t),
+      )
+    where
+      cut : (most i : ℕ) → most < 255 → T (within most (getD ns i 0)) → min (getD ns i 0) 255 ≡ getD ns i 0
+      cut most i l t = omega (arith, leb→le (getD ns i 0) most (and-r (leb 1 (getD ns i 0)) (leb (getD ns i 0) most) t))
+
+  pub sizes-read : (past : ℕ) → length ns ≡ 6 → sizesFrom (numbers (take 6 ns) past) ≡ sizedBy (capped ns) past
+  unfolding sizesFrom
+  sizes-read past e =
+      rw (take-all 6 ns (omega arith))
+      (by-test (inLimits (sizesOf ns)) (λ t. ap (λ (z : Sizes). sizedBy z past) (sym (sizes-same t)))
+      (λ t. rw (limits-same, F-false (inLimits (sizesOf ns)) t)))
