@@ -1,4 +1,6 @@
 // Numbers in groups of seven bits, low group first, in their shortest form. What they mean is in specs/.
+mod samples;
+
 ghost use mathlib.Core.Path.{_≡_};
 ghost use Prim.Native.Nat.{ℕ, suc, _+_, _^_, _<_, _≤_};
 ghost use lib.ListN.{length, drop};
