@@ -58,10 +58,11 @@ pub fn read_sizes(bytes: &[u8]) -> ReadSizes
 pub fn read_step(bytes: &[u8], at: usize) -> ReadStep
     ensures { λ r. ⌜ r ≡ readStep (now (bytes .entry)) at ⌝ }
 {
-    if MOST_BYTES < bytes.len() {
+    let size = bytes.len();
+    if MOST_BYTES < size {
         return ReadStep::NoStep(Refusal::RecordLong);
     }
-    if at == bytes.len() {
+    if at == size {
         return ReadStep::End;
     }
     let got = read_number(bytes, at, MOST_NUMBER);

@@ -112,7 +112,7 @@ read-groups-mul-n :
     (read-groups-below t, read-groups.Post)
     (read-groups-at t)
     read-groups.Post
-read-groups-mul-n t c = let v = limited-most (c .before .before .before .before .before .before .before .before .before .args .most / 128) (c .before .before .before .before .before .before .before .before .before .args .at + 1) (decoded 5 false (drop (c .before .before .before .before .before .before .before .before .before .args .at + 1) (c .before .before .before .before .before .before .before .before .before .args .bytes .now))) _ _ (sym (c .before .before .before .read-groups .ensures 4 (omega arith)) ∙ c .before .rest .given .1) in omega arith
+read-groups-mul-n t c = let v = limited-most (c .before .before .before .before .before .before .before .before .before .args .most / 128) (c .before .before .before .before .before .before .before .before .before .args .at + 1) (decoded 5 false (drop (c .before .before .before .before .before .before .before .before .before .args .at + 1) (c .before .before .before .before .before .before .before .before .before .args .bytes .now))) _ _ (sym (c .before .before .before .read-groups .ensures 4 (omega arith)) ∙ c .before .rest .given .1) in omega (arith, c .before .before .before .before .before .before .shared-slice-known2 .given (c .before .before .before .before .before .before .before .before .before .args .at))
 
 read-groups-add-n :
     (t : ℕ) →
