@@ -76,7 +76,8 @@ decoded-positive (suc g) (b ∷ bs) v k e = by (ltb b 128) refl (λ w j q. decod
     last true p q = let w : b ≡ v = number-of (sym (decoded-last g b false bs (ltb-true b 128 p) q) ∙ e) in omega (arith, ltb-true 0 b q)
     last false p q = absurd (never (sym (decoded-long g b false bs (ltb-true b 128 p) q) ∙ e))
 
-    more : (d : Decoded) → decoded g false bs ≡ d → above (b - 128) (decoded g false bs) ≡ number v k → ((w j : ℕ) → decoded g false bs ≡ number w j → 0 < w) → 0 < v
+    more : (d : Decoded) → decoded g false bs ≡ d → above (b - 128) (decoded g false bs) ≡ number v k →
+        ((w j : ℕ) → decoded g false bs ≡ number w j → 0 < w) → 0 < v
     more fault q f ih = absurd (never (ap (above (b - 128)) (sym q) ∙ f))
     more (number w j) q f ih = let u : b - 128 + w * 128 ≡ v = number-of (ap (above (b - 128)) (sym q) ∙ f) in omega (arith, ih w j q)
 
@@ -116,7 +117,8 @@ module _ (bs : List ℕ) (at most : ℕ) (first : Bool) (g : ℕ) where
   unfolding decoded limited
   read-none h = sym (ap (λ (l : List ℕ). limited most at (decoded (suc g) first l)) (drop-of-length-le bs h))
 
-  there : (d : Decoded) → at < length bs → decoded (suc g) first (getD bs at 0 ∷ drop (at + 1) bs) ≡ d → limited most at (decoded (suc g) first (drop at bs)) ≡ limited most at d
+  there : (d : Decoded) → at < length bs → decoded (suc g) first (getD bs at 0 ∷ drop (at + 1) bs) ≡ d →
+      limited most at (decoded (suc g) first (drop at bs)) ≡ limited most at d
   there d l e =
       ap (λ (l : List ℕ). limited most at (decoded (suc g) first l)) (drop-cons bs at 0 l ∙ ap (λ (k : ℕ). getD bs at 0 ∷ drop k bs) (sym (add-one at))) ∙
       ap (limited most at) e
@@ -134,7 +136,8 @@ module _ (bs : List ℕ) (at most : ℕ) (first : Bool) (g : ℕ) where
 
   -- a group with others above it
   read-more : at < length bs → 128 ≤ getD bs at 0 → getD bs at 0 < 256 →
-      limited most at (decoded (suc g) first (drop at bs)) ≡ onto (getD bs at 0 - 128) most at (limited (most / 128) (at + 1) (decoded g false (drop (at + 1) bs)))
+      limited most at (decoded (suc g) first (drop at bs)) ≡
+      onto (getD bs at 0 - 128) most at (limited (most / 128) (at + 1) (decoded g false (drop (at + 1) bs)))
   read-more l h k =
       there (above (getD bs at 0 - 128) (decoded g false (drop (at + 1) bs))) l (decoded-more g (getD bs at 0) first (drop (at + 1) bs) h) ∙
       limited-above (getD bs at 0 - 128) most at (decoded g false (drop (at + 1) bs)) (omega arith)
@@ -153,7 +156,8 @@ module _ (bs : List ℕ) (at most : ℕ) (first : Bool) (g : ℕ) where
           rw (lt-leb (getD bs at 0 - 128 + v * 128) most (omega (arith, decoded-positive g (drop (at + 1) bs) v j e)))
 
 -- a group, and what was read above it
-pub read-above : (bs : List ℕ) (at most : ℕ) (first : Bool) (g : ℕ) (r : Got) → at < length bs → 128 ≤ getD bs at 0 → getD bs at 0 < 256 → 128 ≤ most → most < 128 ^ suc g →
+pub read-above : (bs : List ℕ) (at most : ℕ) (first : Bool) (g : ℕ) (r : Got) → at < length bs → 128 ≤ getD bs at 0 → getD bs at 0 < 256 →
+    128 ≤ most → most < 128 ^ suc g →
     ((j : ℕ) → most / 128 < 128 ^ suc j → r ≡ limited (most / 128) (at + 1) (decoded (suc j) false (drop (at + 1) bs))) →
     limited most at (decoded (suc g) first (drop at bs)) ≡ onto (getD bs at 0 - 128) most at r
 read-above bs at most first zero r l h k m n e = absurd (omega arith)

@@ -18,7 +18,14 @@ struct Read {
 }
 
 fn samples_read() -> Read
-    ensures { λ r. ⌜ r ≡ record { n127 = Number 127 1; n128 = Number 128 2; n300 = Number 300 2; longer = Fault 0; largest = Number 4294967295 5; larger = Fault 0 } ⌝ }
+    ensures { λ r. ⌜ r ≡ record {
+      n127 = Number 127 1;
+      n128 = Number 128 2;
+      n300 = Number 300 2;
+      longer = Fault 0;
+      largest = Number 4294967295 5;
+      larger = Fault 0;
+    } ⌝ }
 {
     Read {
         n127: read_number(b"\x7F", 0, MOST),

@@ -34,7 +34,8 @@ pub issue-read : (i k n : ℕ) (ns : List ℕ) (past : ℕ) → n ≡ length (is
 unfolding issueFrom issueLimits
 issue-read i k n ns past e =
     by-test (eqb k storel) (λ t. three (rw (T-true (eqb k storel) t) at e))
-    (λ t. by-test (leb k reconcile) (λ u. two (F-false (eqb k storel) t) (leb→le k reconcile u) (rw (F-false (eqb k storel) t, T-true (leb k reconcile) u) at e))
+    (λ t. by-test (leb k reconcile) (λ u. two (F-false (eqb k storel) t) (leb→le k reconcile u)
+    (rw (F-false (eqb k storel) t, T-true (leb k reconcile) u) at e))
     (λ u. three (rw (F-false (eqb k storel) t, F-false (leb k reconcile) u) at e)))
   where
     there : (m j : ℕ) → n ≡ m → j < m → getD (take n ns) j 0 ≡ getD ns j 0
@@ -46,9 +47,11 @@ issue-read i k n ns past e =
     three : n ≡ 3 → made (getD (take n ns) 0 0) (getD (take n ns) 1 0) (getD (take n ns) 2 0) ≡ made (getD ns 0 0) (getD ns 1 0) (getD ns 2 0)
     three f = rw (there 3 0 f (omega arith), there 3 1 f (omega arith), there 3 2 f (omega arith))
 
-    two : eqb k storel ≡ false → k ≤ reconcile → n ≡ 2 → made (getD (take n ns) 0 0) (getD (take n ns) 1 0) (getD (take n ns) 2 0) ≡ made (getD ns 0 0) (getD ns 1 0) (getD ns 2 0)
+    two : eqb k storel ≡ false → k ≤ reconcile → n ≡ 2 →
+        made (getD (take n ns) 0 0) (getD (take n ns) 1 0) (getD (take n ns) 2 0) ≡ made (getD ns 0 0) (getD ns 1 0) (getD ns 2 0)
     two p q f =
-        rw (there 2 0 f (omega arith), there 2 1 f (omega arith)) (ap (λ m. One (Issue i (getD ns 0 0) m) past) (one-operand k (getD ns 1 0) (getD (take n ns) 2 0) (getD ns 2 0) p q))
+        rw (there 2 0 f (omega arith), there 2 1 f (omega arith))
+        (ap (λ m. One (Issue i (getD ns 0 0) m) past) (one-operand k (getD ns 1 0) (getD (take n ns) 2 0) (getD ns 2 0) p q))
 
 -- SIZES
 
@@ -57,7 +60,8 @@ cut-within : (most n : ℕ) → most < 255 → within most (min n 255) ≡ withi
 cut-within most n l =
     same-test (within most (min n 255)) (within most n)
     (λ t. both (leb 1 n) (leb n most) (le→leb 1 n (omega (arith, low t))) (le→leb n most (omega (arith, high t))))
-    (λ t. both (leb 1 (min n 255)) (leb (min n 255) most) (le→leb 1 (min n 255) (omega (arith, leb→le 1 n (and-l (leb 1 n) (leb n most) t)))) (le→leb (min n 255) most (omega (arith, leb→le n most (and-r (leb 1 n) (leb n most) t)))))
+    (λ t. both (leb 1 (min n 255)) (leb (min n 255) most) (le→leb 1 (min n 255) (omega (arith, leb→le 1 n (and-l (leb 1 n) (leb n most) t))))
+    (le→leb (min n 255) most (omega (arith, leb→le n most (and-r (leb 1 n) (leb n most) t)))))
   where
     low : T (within most (min n 255)) → 1 ≤ min n 255
     low t = leb→le 1 (min n 255) (and-l (leb 1 (min n 255)) (leb (min n 255) most) t)

@@ -30,7 +30,12 @@ bytes-turn ns i h =
 pub bytes-less : (ns : List ℕ) (i n : ℕ) → i ≤ n → length (bytesOfAll (take i ns)) ≤ length (bytesOfAll (take n ns))
 bytes-less ns i n h =
     let p : i + (n - i) ≡ n = omega arith in
-    rw (← p, take-add i (n - i) ns, bytes-both (take i ns) (take (n - i) (drop i ns)), length-append (bytesOfAll (take i ns)) (bytesOfAll (take (n - i) (drop i ns))))
+    rw (
+      ← p,
+      take-add i (n - i) ns,
+      bytes-both (take i ns) (take (n - i) (drop i ns)),
+      length-append (bytesOfAll (take i ns)) (bytesOfAll (take (n - i) (drop i ns))),
+    )
     (omega arith)
 
 -- some bytes behind others that were put
@@ -75,7 +80,8 @@ module _ (bs ms ns : List ℕ) (n i place : ℕ) where
       prepended (take (i + 1) (set ns i v)) (readNumbers (drop (i + 1) (take n ms)) bs past) ≡ prepended (take i ns) (readNumbers (drop i (take n ms)) bs place)
   unfolding readNumbers
   read-turn v past h k l e =
-      ap (λ (vs : List ℕ). prepended vs (readNumbers (drop (i + 1) (take n ms)) bs past)) (ap (λ (j : ℕ). take j (set ns i v)) (add-one i) ∙ take-suc-set ns i v l) ∙
+      ap (λ (vs : List ℕ). prepended vs (readNumbers (drop (i + 1) (take n ms)) bs past))
+      (ap (λ (j : ℕ). take j (set ns i v)) (add-one i) ∙ take-suc-set ns i v l) ∙
       one-prepended (take i ns) v (readNumbers (drop (i + 1) (take n ms)) bs past) ∙ ap (prepended (take i ns)) (sym (rw e at (left-is h k)))
 
   pub read-fault : (p : ℕ) → i < n → n ≤ length ms → readNumber (getD ms i 0) bs place ≡ Fault p →

@@ -48,7 +48,8 @@ number-length-returns-2 : (t : ℕ) → number-length-lts.Need-returns-2 (
   number-length-below t,
   number-length.Post,
 ) (number-length-at t) number-length.Post
-number-length-returns-2 t c = omega (arith, c .number-length .ensures, ap length (bytes-more (c .before .before .args .n) (c .before .if1 .left) (omega arith)))
+number-length-returns-2 t c =
+    omega (arith, c .number-length .ensures, ap length (bytes-more (c .before .before .args .n) (c .before .if1 .left) (omega arith)))
 
 pub +number-length-spec : {M : Type 1} → statement M
 +number-length-spec = close μ-number-length λ t. number-length-lts.spec (

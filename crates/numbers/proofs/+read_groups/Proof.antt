@@ -30,7 +30,10 @@ read-groups-returns : (t : ℕ) → read-groups-lts.Need-returns (
   read-groups-below t,
   read-groups.Post,
 ) (read-groups-at t) read-groups.Post
-read-groups-returns t c = λ g h. read-none (c .before .before .args .bytes .now) (c .before .before .args .at) (c .before .before .args .most) (c .before .before .args .first) g (c .if1 .taken)
+read-groups-returns t c =
+    λ g h.
+    let args = c .before .before .args in
+    read-none (args .bytes .now) (args .at) (args .most) (args .first) g (c .if1 .taken)
 
 read-groups-shared-slice-read-b : (t : ℕ) → read-groups-lts.Need-shared-slice-read-b (
   read-groups-below t,
@@ -56,25 +59,47 @@ read-groups-returns-2 : (t : ℕ) → read-groups-lts.Need-returns-2 (
   read-groups-below t,
   read-groups.Post,
 ) (read-groups-at t) read-groups.Post
-read-groups-returns-2 t c = λ g h. rw (read-last (c .before .before .before .before .before .before .args .bytes .now) (c .before .before .before .before .before .before .args .at) (c .before .before .before .before .before .before .args .most) (c .before .before .before .before .before .before .args .first) g (c .before .before .before .before .if1 .left) (c .before .before .if2 .taken) (c .before .if3 .taken), le-leb _ _ (c .if4 .taken))
+read-groups-returns-2 t c =
+    λ g h.
+    let args = c .before .before .before .before .before .before .args in
+    rw (
+      read-last (args .bytes .now) (args .at) (args .most) (args .first) g (c .before .before .before .before .if1 .left)
+          (c .before .before .if2 .taken) (c .before .if3 .taken),
+      le-leb _ _ (c .if4 .taken),
+    )
 
 read-groups-returns-3 : (t : ℕ) → read-groups-lts.Need-returns-3 (
   read-groups-below t,
   read-groups.Post,
 ) (read-groups-at t) read-groups.Post
-read-groups-returns-3 t c = λ g h. rw (read-last (c .before .before .before .before .before .before .args .bytes .now) (c .before .before .before .before .before .before .args .at) (c .before .before .before .before .before .before .args .most) (c .before .before .before .before .before .before .args .first) g (c .before .before .before .before .if1 .left) (c .before .before .if2 .taken) (c .before .if3 .taken), lt-leb _ _ (c .if4 .left))
+read-groups-returns-3 t c =
+    λ g h.
+    let args = c .before .before .before .before .before .before .args in
+    rw (
+      read-last (args .bytes .now) (args .at) (args .most) (args .first) g (c .before .before .before .before .if1 .left)
+          (c .before .before .if2 .taken) (c .before .if3 .taken),
+      lt-leb _ _ (c .if4 .left),
+    )
 
 read-groups-returns-4 : (t : ℕ) → read-groups-lts.Need-returns-4 (
   read-groups-below t,
   read-groups.Post,
 ) (read-groups-at t) read-groups.Post
-read-groups-returns-4 t c = λ g h. sym (read-long (c .before .before .before .before .before .args .bytes .now) (c .before .before .before .before .before .args .at) (c .before .before .before .before .before .args .most) (c .before .before .before .before .before .args .first) g (c .before .before .before .if1 .left) (c .before .if2 .taken) (c .if3 .left))
+read-groups-returns-4 t c =
+    λ g h.
+    let args = c .before .before .before .before .before .args in
+    sym (read-long (args .bytes .now) (args .at) (args .most) (args .first) g (c .before .before .before .if1 .left) (c .before .if2 .taken)
+    (c .if3 .left))
 
 read-groups-returns-5 : (t : ℕ) → read-groups-lts.Need-returns-5 (
   read-groups-below t,
   read-groups.Post,
 ) (read-groups-at t) read-groups.Post
-read-groups-returns-5 t c = λ g h. sym (read-small (c .before .before .before .before .before .args .bytes .now) (c .before .before .before .before .before .args .at) (c .before .before .before .before .before .args .most) (c .before .before .before .before .before .args .first) g (c .before .before .before .if1 .left) (c .before .if2 .left) (c .if5 .taken))
+read-groups-returns-5 t c =
+    λ g h.
+    let args = c .before .before .before .before .before .args in
+    sym (read-small (args .bytes .now) (args .at) (args .most) (args .first) g (c .before .before .before .if1 .left) (c .before .if2 .left)
+    (c .if5 .taken))
 
 read-groups-add-read-groups : (t : ℕ) → read-groups-lts.Need-add-read-groups (
   read-groups-below t,
@@ -104,7 +129,15 @@ read-groups-returns-6 : (t : ℕ) → read-groups-lts.Need-returns-6 (
   read-groups-below t,
   read-groups.Post,
 ) (read-groups-at t) read-groups.Post
-read-groups-returns-6 t c = λ g h. rw (read-above (c .before .before .before .before .before .before .before .before .args .bytes .now) (c .before .before .before .before .before .before .before .before .args .at) (c .before .before .before .before .before .before .before .before .args .most) (c .before .before .before .before .before .before .before .before .args .first) g _ (c .before .before .before .before .before .before .if1 .left) (c .before .before .before .before .if2 .left) (omega (arith, c .before .before .before .before .before .shared-slice-known2 .given (c .before .before .before .before .before .before .before .before .args .at))) (c .before .before .before .if5 .left) h (c .before .before .read-groups .ensures), c .enum-told .given .1)
+read-groups-returns-6 t c =
+    λ g h.
+    let args = c .before .before .before .before .before .before .before .before .args in
+    rw (
+      read-above (args .bytes .now) (args .at) (args .most) (args .first) g _ (c .before .before .before .before .before .before .if1 .left)
+          (c .before .before .before .before .if2 .left) (omega (arith, c .before .before .before .before .before .shared-slice-known2 .given (args .at)))
+          (c .before .before .before .if5 .left) h (c .before .before .read-groups .ensures),
+      c .enum-told .given .1,
+    )
 
 read-groups-mul-n :
     (t : ℕ) →
@@ -112,7 +145,11 @@ read-groups-mul-n :
     (read-groups-below t, read-groups.Post)
     (read-groups-at t)
     read-groups.Post
-read-groups-mul-n t c = let v = limited-most (c .before .before .before .before .before .before .before .before .before .args .most / 128) (c .before .before .before .before .before .before .before .before .before .args .at + 1) (decoded 5 false (drop (c .before .before .before .before .before .before .before .before .before .args .at + 1) (c .before .before .before .before .before .before .before .before .before .args .bytes .now))) _ _ (sym (c .before .before .before .read-groups .ensures 4 (omega arith)) ∙ c .before .rest .given .1) in omega (arith, c .before .before .before .before .before .before .shared-slice-known2 .given (c .before .before .before .before .before .before .before .before .before .args .at))
+read-groups-mul-n t c =
+    let args = c .before .before .before .before .before .before .before .before .before .args in
+    let v = limited-most (args .most / 128) (args .at + 1) (decoded 5 false (drop (args .at + 1) (args .bytes .now))) _ _
+    (sym (c .before .before .before .read-groups .ensures 4 (omega arith)) ∙ c .before .rest .given .1) in
+    omega (arith, c .before .before .before .before .before .before .shared-slice-known2 .given (args .at))
 
 read-groups-add-n :
     (t : ℕ) →
@@ -120,19 +157,43 @@ read-groups-add-n :
     (read-groups-below t, read-groups.Post)
     (read-groups-at t)
     read-groups.Post
-read-groups-add-n t c = let v = limited-most (c .before .before .before .before .before .before .before .before .before .args .most / 128) (c .before .before .before .before .before .before .before .before .before .args .at + 1) (decoded 5 false (drop (c .before .before .before .before .before .before .before .before .before .args .at + 1) (c .before .before .before .before .before .before .before .before .before .args .bytes .now))) _ _ (sym (c .before .before .before .read-groups .ensures 4 (omega arith)) ∙ c .before .rest .given .1) in omega (arith, c .before .before .before .before .before .before .shared-slice-known2 .given (c .before .before .before .before .before .before .before .before .before .args .at))
+read-groups-add-n t c =
+    let args = c .before .before .before .before .before .before .before .before .before .args in
+    let v = limited-most (args .most / 128) (args .at + 1) (decoded 5 false (drop (args .at + 1) (args .bytes .now))) _ _
+    (sym (c .before .before .before .read-groups .ensures 4 (omega arith)) ∙ c .before .rest .given .1) in
+    omega (arith, c .before .before .before .before .before .before .shared-slice-known2 .given (args .at))
 
 read-groups-returns-7 : (t : ℕ) → read-groups-lts.Need-returns-7 (
   read-groups-below t,
   read-groups.Post,
 ) (read-groups-at t) read-groups.Post
-read-groups-returns-7 t c = λ g h. rw (read-above (c .before .before .before .before .before .before .before .before .before .before .args .bytes .now) (c .before .before .before .before .before .before .before .before .before .before .args .at) (c .before .before .before .before .before .before .before .before .before .before .args .most) (c .before .before .before .before .before .before .before .before .before .before .args .first) g _ (c .before .before .before .before .before .before .before .before .if1 .left) (c .before .before .before .before .before .before .if2 .left) (omega (arith, c .before .before .before .before .before .before .before .shared-slice-known2 .given (c .before .before .before .before .before .before .before .before .before .before .args .at))) (c .before .before .before .before .before .if5 .left) h (c .before .before .before .before .read-groups .ensures), c .before .before .rest .given .1, lt-leb _ _ (c .if6 .taken))
+read-groups-returns-7 t c =
+    λ g h.
+    let args = c .before .before .before .before .before .before .before .before .before .before .args in
+    rw (
+      read-above (args .bytes .now) (args .at) (args .most) (args .first) g _
+          (c .before .before .before .before .before .before .before .before .if1 .left) (c .before .before .before .before .before .before .if2 .left)
+          (omega (arith, c .before .before .before .before .before .before .before .shared-slice-known2 .given (args .at)))
+          (c .before .before .before .before .before .if5 .left) h (c .before .before .before .before .read-groups .ensures),
+      c .before .before .rest .given .1,
+      lt-leb _ _ (c .if6 .taken),
+    )
 
 read-groups-returns-8 : (t : ℕ) → read-groups-lts.Need-returns-8 (
   read-groups-below t,
   read-groups.Post,
 ) (read-groups-at t) read-groups.Post
-read-groups-returns-8 t c = λ g h. rw (read-above (c .before .before .before .before .before .before .before .before .before .before .args .bytes .now) (c .before .before .before .before .before .before .before .before .before .before .args .at) (c .before .before .before .before .before .before .before .before .before .before .args .most) (c .before .before .before .before .before .before .before .before .before .before .args .first) g _ (c .before .before .before .before .before .before .before .before .if1 .left) (c .before .before .before .before .before .before .if2 .left) (omega (arith, c .before .before .before .before .before .before .before .shared-slice-known2 .given (c .before .before .before .before .before .before .before .before .before .before .args .at))) (c .before .before .before .before .before .if5 .left) h (c .before .before .before .before .read-groups .ensures), c .before .before .rest .given .1, le-leb _ _ (c .if6 .left))
+read-groups-returns-8 t c =
+    λ g h.
+    let args = c .before .before .before .before .before .before .before .before .before .before .args in
+    rw (
+      read-above (args .bytes .now) (args .at) (args .most) (args .first) g _
+          (c .before .before .before .before .before .before .before .before .if1 .left) (c .before .before .before .before .before .before .if2 .left)
+          (omega (arith, c .before .before .before .before .before .before .before .shared-slice-known2 .given (args .at)))
+          (c .before .before .before .before .before .if5 .left) h (c .before .before .before .before .read-groups .ensures),
+      c .before .before .rest .given .1,
+      le-leb _ _ (c .if6 .left),
+    )
 
 pub +read-groups-spec : {M : Type 1} → statement M
 +read-groups-spec = close μ-read-groups λ t. read-groups-lts.spec (

@@ -36,7 +36,8 @@ write-groups-slice-write-buf : (t : ℕ) → write-groups-lts.Need-slice-write-b
   write-groups-below t,
   write-groups.Post,
 ) (write-groups-at t) write-groups.Post
-write-groups-slice-write-buf t c = omega (arith, c .before .before .pre .1, ap length (bytes-last (c .before .before .args .n) (c .if1 .taken)))
+write-groups-slice-write-buf t c =
+    omega (arith, c .before .before .pre .1, ap length (bytes-last (c .before .before .args .n) (c .if1 .taken)))
 
 write-groups-add-result : (t : ℕ) → write-groups-lts.Need-add-result (
   write-groups-below t,
@@ -72,7 +73,8 @@ write-groups-slice-write-buf-2 : (t : ℕ) → write-groups-lts.Need-slice-write
   write-groups-below t,
   write-groups.Post,
 ) (write-groups-at t) write-groups.Post
-write-groups-slice-write-buf-2 t c = omega (arith, c .before .before .pre .1, ap length (bytes-more (c .before .before .args .n) (c .if1 .left) (omega arith)))
+write-groups-slice-write-buf-2 t c =
+    omega (arith, c .before .before .pre .1, ap length (bytes-more (c .before .before .args .n) (c .if1 .left) (omega arith)))
 
 write-groups-add-write-groups : (t : ℕ) → write-groups-lts.Need-add-write-groups (
   write-groups-below t,
@@ -84,7 +86,16 @@ write-groups-write-groups-requires : (t : ℕ) → write-groups-lts.Need-write-g
   write-groups-below t,
   write-groups.Post,
 ) (write-groups-at t) write-groups.Post
-write-groups-write-groups-requires t c κs = (omega arith, omega (arith, c .before .before .before .pre .1, length-set (c .before .before .before .args .buf .now) (c .before .before .before .args .at) (128 + c .before .before .before .args .n % 128), ap length (bytes-more (c .before .before .before .args .n) (c .before .if1 .left) (omega arith))))
+write-groups-write-groups-requires t c κs =
+    let args = c .before .before .before .args in (
+      omega arith,
+      omega (
+        arith,
+        c .before .before .before .pre .1,
+        length-set (args .buf .now) (args .at) (128 + args .n % 128),
+        ap length (bytes-more (args .n) (c .before .if1 .left) (omega arith)),
+      ),
+    )
 
 write-groups-same-length-2 : (t : ℕ) → write-groups-lts.Need-same-length-2 (
   write-groups-below t,
@@ -96,7 +107,10 @@ write-groups-returns-2 : (t : ℕ) → write-groups-lts.Need-returns-2 (
   write-groups-below t,
   write-groups.Post,
 ) (write-groups-at t) write-groups.Post
-write-groups-returns-2 t c = put-more (c .before .before .before .before .before .before .args .buf .now) (c .before .before .before .before .before .before .args .at) (c .before .before .before .before .before .before .args .n) _ (c .before .before .before .before .if1 .left) (omega arith) (c .before .before .write-groups .ensures)
+write-groups-returns-2 t c =
+    let args = c .before .before .before .before .before .before .args in
+    put-more (args .buf .now) (args .at) (args .n) _ (c .before .before .before .before .if1 .left) (omega arith)
+    (c .before .before .write-groups .ensures)
 
 pub +write-groups-spec : {M : Type 1} → statement M
 +write-groups-spec = close μ-write-groups λ t. write-groups-lts.spec (

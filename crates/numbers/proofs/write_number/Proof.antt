@@ -12,11 +12,15 @@ number-length-requires c κs = search needs
 
 returns : tie.Need-returns
 unfolding putBytes
-returns c = rw (lt-leb (c .before .before .before .args .at + length (bytesOf (c .before .before .before .args .n))) (length (c .before .before .before .args .buf .now)) (omega (arith, c .before .number-length .ensures)))
+returns c =
+    let args = c .before .before .before .args in
+    rw (lt-leb (args .at + length (bytesOf (args .n))) (length (args .buf .now)) (omega (arith, c .before .number-length .ensures)))
 
 returns-2 : tie.Need-returns-2
 unfolding putBytes
-returns-2 c = rw (lt-leb (c .before .before .before .before .args .at + length (bytesOf (c .before .before .before .before .args .n))) (length (c .before .before .before .before .args .buf .now)) (omega (arith, c .before .before .number-length .ensures)))
+returns-2 c =
+    let args = c .before .before .before .before .args in
+    rw (lt-leb (args .at + length (bytesOf (args .n))) (length (args .buf .now)) (omega (arith, c .before .before .number-length .ensures)))
 
 write-groups-requires : tie.Need-write-groups-requires
 write-groups-requires c κs = omega (arith, c .before .before .before .number-length .ensures)
@@ -26,7 +30,10 @@ same-length c = search needs
 
 returns-3 : tie.Need-returns-3
 unfolding putBytes
-returns-3 c = rw (le-leb (c .before .before .before .before .before .before .before .before .args .at + length (bytesOf (c .before .before .before .before .before .before .before .before .args .n))) (length (c .before .before .before .before .before .before .before .before .args .buf .now)) (omega (arith, c .before .before .before .before .before .before .number-length .ensures))) (c .before .before .write-groups .ensures)
+returns-3 c =
+    let args = c .before .before .before .before .before .before .before .before .args in
+    rw (le-leb (args .at + length (bytesOf (args .n))) (length (args .buf .now))
+    (omega (arith, c .before .before .before .before .before .before .number-length .ensures))) (c .before .before .write-groups .ensures)
 
 pub write-number-spec : {M : Type 1} → statement M
 write-number-spec =

@@ -26,14 +26,21 @@ enum-told c = search needs
 
 returns-2 : tie.Need-returns-2
 unfolding readMove
-returns-2 c = let e = sym (c .before .before .read-number .ensures) ∙ c .enum-told .given .1 in rw (c .before .before .before .if1 .left, e) (ap (λ (p : ℕ). NoStep (NoRecord p)) (sym (fault-place _ _ _ _ e)))
+returns-2 c =
+    let e = sym (c .before .before .read-number .ensures) ∙ c .enum-told .given .1 in
+    rw (c .before .before .before .if1 .left, e) (ap (λ (p : ℕ). NoStep (NoRecord p)) (sym (fault-place _ _ _ _ e)))
 
 move-of-requires-2 : tie.Need-move-of-requires-2
 move-of-requires-2 c κs = search needs
 
 returns-3 : tie.Need-returns-3
 unfolding readMove
-returns-3 c = rw (c .before .before .before .before .before .if1 .left, sym (c .before .before .before .before .read-number .ensures) ∙ c .before .before .got .given .1, c .move-of2 .ensures)
+returns-3 c =
+    rw (
+      c .before .before .before .before .before .if1 .left,
+      sym (c .before .before .before .before .read-number .ensures) ∙ c .before .before .got .given .1,
+      c .move-of2 .ensures,
+    )
 
 pub read-move-spec : {M : Type 1} → statement M
 read-move-spec =

@@ -17,7 +17,12 @@ same-length c = search needs
 
 returns : tie.Need-returns
 unfolding writeSizes
-returns c = rw (← c .before .before .before .before .before .before .fit .ensures, c .before .before .before .before .before .if1 .taken, ← c .before .before .before .before .sizes-row .ensures .0) (c .before .before .write-row .ensures)
+returns c =
+    rw (
+      ← c .before .before .before .before .before .before .fit .ensures,
+      c .before .before .before .before .before .if1 .taken,
+      ← c .before .before .before .before .sizes-row .ensures .0,
+    ) (c .before .before .write-row .ensures)
 
 returns-2 : tie.Need-returns-2
 unfolding writeSizes

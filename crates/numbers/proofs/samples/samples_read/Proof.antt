@@ -41,7 +41,15 @@ read-number-requires-6 c κs = search needs
 
 returns : tie.Need-returns
 unfolding readNumber limited decoded above
-returns c = rw (c .before .before .before .before .before .before .before .before .before .before .read-number .ensures, c .before .before .before .before .before .before .before .before .read-number2 .ensures, c .before .before .before .before .before .before .read-number3 .ensures, c .before .before .before .before .read-number4 .ensures, c .before .before .read-number5 .ensures, c .read-number6 .ensures)
+returns c =
+    rw (
+      c .before .before .before .before .before .before .before .before .before .before .read-number .ensures,
+      c .before .before .before .before .before .before .before .before .read-number2 .ensures,
+      c .before .before .before .before .before .before .read-number3 .ensures,
+      c .before .before .before .before .read-number4 .ensures,
+      c .before .before .read-number5 .ensures,
+      c .read-number6 .ensures,
+    )
 
 pub samples-read-spec : {M : Type 1} → statement M
 samples-read-spec =

@@ -30,7 +30,13 @@ write-number-requires-4 c κs = search needs
 
 returns : tie.Need-returns
 unfolding putBytes encoded
-returns c = rw (ap (λ (p : Put). p .buffer) (c .before .before .before .before .before .before .before .before .before .before .write-number .ensures), ap (λ (p : Put). p .buffer) (c .before .before .before .before .before .before .before .write-number2 .ensures), ap (λ (p : Put). p .buffer) (c .before .before .before .before .write-number3 .ensures), ap (λ (p : Put). p .buffer) (c .before .write-number4 .ensures))
+returns c =
+    rw (
+      ap (λ (p : Put). p .buffer) (c .before .before .before .before .before .before .before .before .before .before .write-number .ensures),
+      ap (λ (p : Put). p .buffer) (c .before .before .before .before .before .before .before .write-number2 .ensures),
+      ap (λ (p : Put). p .buffer) (c .before .before .before .before .write-number3 .ensures),
+      ap (λ (p : Put). p .buffer) (c .before .write-number4 .ensures),
+    )
 
 pub samples-written-spec : {M : Type 1} → statement M
 samples-written-spec =

@@ -29,7 +29,15 @@ returns-6 c = rw (c .match .keys6)
 
 returns-7 : tie.Need-returns-7
 unfolding moveOf
-returns-7 c = rw (ne-eqb _ _ (c .match .rest .0 .0 .0 .0 .0 .1), ne-eqb _ _ (c .match .rest .0 .0 .0 .0 .1), ne-eqb _ _ (c .match .rest .0 .0 .0 .1), ne-eqb _ _ (c .match .rest .0 .0 .1), ne-eqb _ _ (c .match .rest .0 .1), ne-eqb _ _ (c .match .rest .1))
+returns-7 c =
+    rw (
+      ne-eqb _ _ (c .match .rest .0 .0 .0 .0 .0 .1),
+      ne-eqb _ _ (c .match .rest .0 .0 .0 .0 .1),
+      ne-eqb _ _ (c .match .rest .0 .0 .0 .1),
+      ne-eqb _ _ (c .match .rest .0 .0 .1),
+      ne-eqb _ _ (c .match .rest .0 .1),
+      ne-eqb _ _ (c .match .rest .1),
+    )
 
 pub move-of-spec : {M : Type 1} → statement M
 move-of-spec =

@@ -39,7 +39,15 @@ size-of-requires-6 : tie.Need-size-of-requires-6
 size-of-requires-6 c κs = search needs
 
 returns : tie.Need-returns
-returns c = rw (c .before .before .before .before .before .size-of .ensures, c .before .before .before .before .size-of2 .ensures, c .before .before .before .size-of3 .ensures, c .before .before .size-of4 .ensures, c .before .size-of5 .ensures, c .size-of6 .ensures)
+returns c =
+    rw (
+      c .before .before .before .before .before .size-of .ensures,
+      c .before .before .before .before .size-of2 .ensures,
+      c .before .before .before .size-of3 .ensures,
+      c .before .before .size-of4 .ensures,
+      c .before .size-of5 .ensures,
+      c .size-of6 .ensures,
+    )
 
 pub sizes-of-spec : {M : Type 1} → statement M
 sizes-of-spec =

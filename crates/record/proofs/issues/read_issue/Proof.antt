@@ -24,7 +24,9 @@ enum-told c = search needs
 
 returns : tie.Need-returns
 unfolding readIssue
-returns c = let e = sym (c .before .before .read-number .ensures) ∙ c .enum-told .given .1 in rw (e, readIssue) (ap (λ (p : ℕ). NoStep (NoRecord p)) (sym (fault-place _ _ _ _ e)))
+returns c =
+    let e = sym (c .before .before .read-number .ensures) ∙ c .enum-told .given .1 in
+    rw (e, readIssue) (ap (λ (p : ℕ). NoStep (NoRecord p)) (sym (fault-place _ _ _ _ e)))
 
 read-number-requires-2 : tie.Need-read-number-requires-2
 read-number-requires-2 c κs = search needs
@@ -37,11 +39,22 @@ enum-told-2 c = search needs
 
 returns-2 : tie.Need-returns-2
 unfolding readIssue
-returns-2 c = let e = sym (c .before .before .read-number2 .ensures) ∙ c .enum-told2 .given .1 in rw (sym (c .before .before .before .before .before .before .read-number .ensures) ∙ c .before .before .before .before .first .given .1, e, readIssue) (ap (λ (p : ℕ). NoStep (NoRecord p)) (sym (fault-place _ _ _ _ e)))
+returns-2 c =
+    let e = sym (c .before .before .read-number2 .ensures) ∙ c .enum-told2 .given .1 in
+    rw (
+      sym (c .before .before .before .before .before .before .read-number .ensures) ∙ c .before .before .before .before .first .given .1,
+      e,
+      readIssue,
+    ) (ap (λ (p : ℕ). NoStep (NoRecord p)) (sym (fault-place _ _ _ _ e)))
 
 returns-3 : tie.Need-returns-3
 unfolding readIssue
-returns-3 c = rw (sym (c .before .before .before .before .before .before .before .before .read-number .ensures) ∙ c .before .before .before .before .before .before .first .given .1, sym (c .before .before .before .before .read-number2 .ensures) ∙ c .before .before .second .given .1, lt-leb _ 7 (c .if1 .taken), readIssue)
+returns-3 c =
+    let at-first = c .before .before .before .before .before .before in
+    let site = sym (at-first .before .before .read-number .ensures) ∙ at-first .first .given .1 in
+    let at-second = c .before .before in
+    let kind = sym (at-second .before .before .read-number2 .ensures) ∙ at-second .second .given .1 in
+    rw (site, kind, lt-leb _ 7 (c .if1 .taken), readIssue)
 
 issue-limits-requires : tie.Need-issue-limits-requires
 issue-limits-requires c κs = search needs
@@ -51,7 +64,20 @@ read-row-requires c κs = search needs
 
 returns-4 : tie.Need-returns-4
 unfolding readIssue issueFrom
-returns-4 c = rw (sym (c .before .before .before .before .before .before .before .before .before .before .before .read-number .ensures) ∙ c .before .before .before .before .before .before .before .before .before .first .given .1, sym (c .before .before .before .before .before .before .before .read-number2 .ensures) ∙ c .before .before .before .before .before .second .given .1, le-leb _ 7 (c .before .before .before .if1 .left), ← c .before .before .issue-limits .ensures .0, ← c .before .read-row .ensures, c .if2 .taken, readIssue)
+returns-4 c =
+    let at-first = c .before .before .before .before .before .before .before .before .before in
+    let site = sym (at-first .before .before .read-number .ensures) ∙ at-first .first .given .1 in
+    let at-second = c .before .before .before .before .before in
+    let kind = sym (at-second .before .before .read-number2 .ensures) ∙ at-second .second .given .1 in
+    rw (
+      site,
+      kind,
+      le-leb _ 7 (c .before .before .before .if1 .left),
+      ← c .before .before .issue-limits .ensures .0,
+      ← c .before .read-row .ensures,
+      c .if2 .taken,
+      readIssue,
+    )
 
 element-copy-out-instruction-of : tie.Need-element-copy-out-instruction-of
 element-copy-out-instruction-of c = search needs
@@ -67,7 +93,26 @@ element-copy-out-t22 c = search needs
 
 returns-5 : tie.Need-returns-5
 unfolding readIssue
-returns-5 c = let len : length (c .before .before .before .before .before .before .issue-limits .result .numbers) ≡ 6 = search needs in let n = sym (length-take-le (c .before .before .before .before .before .before .issue-limits .result .count) (c .before .before .before .before .before .before .issue-limits .result .numbers) (omega arith)) ∙ ap length (c .before .before .before .before .before .before .issue-limits .ensures .0) in rw (sym (c .before .before .before .before .before .before .before .before .before .before .before .before .before .before .before .read-number .ensures) ∙ c .before .before .before .before .before .before .before .before .before .before .before .before .before .first .given .1, sym (c .before .before .before .before .before .before .before .before .before .before .before .read-number2 .ensures) ∙ c .before .before .before .before .before .before .before .before .before .second .given .1, le-leb _ 7 (c .before .before .before .before .before .before .before .if1 .left), ← c .before .before .before .before .before .before .issue-limits .ensures .0, ← c .before .before .before .before .before .read-row .ensures, c .before .before .before .before .if2 .left, issue-read _ _ (c .before .before .before .before .before .before .issue-limits .result .count) (c .before .before .before .before .before .read-row .result .numbers) (c .before .before .before .before .before .read-row .result .place) n, ← c .before .instruction-of .ensures, readIssue)
+returns-5 c =
+    let at-first = c .before .before .before .before .before .before .before .before .before .before .before .before .before in
+    let site = sym (at-first .before .before .read-number .ensures) ∙ at-first .first .given .1 in
+    let at-second = c .before .before .before .before .before .before .before .before .before in
+    let kind = sym (at-second .before .before .read-number2 .ensures) ∙ at-second .second .given .1 in
+    let issue-limits = c .before .before .before .before .before .before .issue-limits in
+    let read-row = c .before .before .before .before .before .read-row in
+    let len : length (issue-limits .result .numbers) ≡ 6 = search needs in
+    let n = sym (length-take-le (issue-limits .result .count) (issue-limits .result .numbers) (omega arith)) ∙ ap length (issue-limits .ensures .0) in
+    rw (
+      site,
+      kind,
+      le-leb _ 7 (c .before .before .before .before .before .before .before .if1 .left),
+      ← issue-limits .ensures .0,
+      ← read-row .ensures,
+      c .before .before .before .before .if2 .left,
+      issue-read _ _ (issue-limits .result .count) (read-row .result .numbers) (read-row .result .place) n,
+      ← c .before .instruction-of .ensures,
+      readIssue,
+    )
 
 pub read-issue-spec : {M : Type 1} → statement M
 read-issue-spec =

@@ -12,14 +12,18 @@ use Rattle.record.proofs.rows.put_row.Statement.{statement}
 use Rattle.record.proofs.rows.put_row.Tie as tie
 
 abbrev Inv-loop : tie.InvT-loop
-Inv-loop buf₀ at numbers count past₀ i₀ buf past i = (i ≤ count) × ((length buf ≡ length buf₀) × (putTo past buf ≡ putTo (at + length (bytesOfAll (take i numbers))) (sets buf₀ at (bytesOfAll (take i numbers)))))
+Inv-loop buf₀ at numbers count past₀ i₀ buf past i =
+    (i ≤ count) × ((length buf ≡ length buf₀) ×
+    (putTo past buf ≡ putTo (at + length (bytesOfAll (take i numbers))) (sets buf₀ at (bytesOfAll (take i numbers)))))
 
 abbrev μ-loop : tie.MeasureT-loop
 μ-loop buf₀ at numbers count past₀ i₀ buf past i = count - i
 
 loop-holds : tie.Need-loop-holds Inv-loop μ-loop
 unfolding bytesOfAll
-loop-holds c = (omega arith, (refl, ap (λ (m : ℕ). putTo m (c .before .before .args .buf .now)) (sym (add-zero (c .before .before .args .at)))))
+loop-holds c =
+    let args = c .before .before .args in
+    (omega arith, (refl, ap (λ (m : ℕ). putTo m (args .buf .now)) (sym (add-zero (args .at)))))
 
 mul-write-number : tie.Need-mul-write-number Inv-loop μ-loop
 mul-write-number c = search needs
@@ -37,13 +41,35 @@ loop-less : tie.Need-loop-less Inv-loop μ-loop
 loop-less c = search needs
 
 loop-again : tie.Need-loop-again Inv-loop μ-loop
-loop-again c = let len : length (c .before .before .before .before .before .before .before .before .args .row .numbers) ≡ 6 = search needs in let b = bytes-turn (c .before .before .before .before .before .before .before .before .args .row .numbers) (c .before .before .before .before .before .loop .i) (omega arith) in let fits : c .before .before .before .before .before .before .before .before .args .at + length (bytesOfAll (take (c .before .before .before .before .before .loop .i + 1) (c .before .before .before .before .before .before .before .before .args .row .numbers))) ≤ length (c .before .before .before .before .before .before .before .before .args .buf .now) = omega (arith, c .before .before .before .before .before .before .before .before .pre .1, bytes-less (c .before .before .before .before .before .before .before .before .args .row .numbers) (c .before .before .before .before .before .loop .i + 1) (c .before .before .before .before .before .before .before .before .args .row .count) (omega arith)) in (omega arith, (c .before .before .write-number .kept .0 ∙ c .before .before .before .before .before .loop .inv .1 .0, rw b (put-turn (c .before .before .before .before .before .before .before .before .args .buf .now) (bytesOfAll (take (c .before .before .before .before .before .loop .i) (c .before .before .before .before .before .before .before .before .args .row .numbers))) (bytesOf (getD (c .before .before .before .before .before .before .before .before .args .row .numbers) (c .before .before .before .before .before .loop .i) 0)) (c .before .before .before .before .before .before .before .before .args .at) (c .before .before .before .before .before .loop .past) (c .before .before .before .before .before .loop .buf) _ (c .before .before .before .before .before .loop .inv .1 .1) (c .before .before .write-number .ensures) (rw b at fits))))
+loop-again c =
+    let args = c .before .before .before .before .before .before .before .before .args in
+    let loop = c .before .before .before .before .before .loop in
+    let write-number = c .before .before .write-number in
+    let len : length (args .row .numbers) ≡ 6 = search needs in
+    let b = bytes-turn (args .row .numbers) (loop .i) (omega arith) in
+    let fits : args .at + length (bytesOfAll (take (loop .i + 1) (args .row .numbers))) ≤ length (args .buf .now) =
+    omega (
+      arith,
+      c .before .before .before .before .before .before .before .before .pre .1,
+      bytes-less (args .row .numbers) (loop .i + 1) (args .row .count) (omega arith),
+    ) in (
+      omega arith,
+      (
+        write-number .kept .0 ∙ loop .inv .1 .0,
+        rw b
+            (put-turn (args .buf .now) (bytesOfAll (take (loop .i) (args .row .numbers))) (bytesOf (getD (args .row .numbers) (loop .i) 0)) (args .at)
+            (loop .past) (loop .buf) _ (loop .inv .1 .1) (write-number .ensures) (rw b at fits)),
+      ),
+    )
 
 same-length : tie.Need-same-length Inv-loop μ-loop
 same-length c = c .before .loop .inv .1 .0
 
 returns : tie.Need-returns Inv-loop μ-loop
-returns c = let e : c .before .loop .i ≡ c .before .before .before .before .args .row .count = omega arith in rw e at (c .before .loop .inv .1 .1)
+returns c =
+    let loop = c .before .loop in
+    let e : loop .i ≡ c .before .before .before .before .args .row .count = omega arith in
+    rw e at (loop .inv .1 .1)
 
 pub put-row-spec : {M : Type 1} → statement M
 put-row-spec =

@@ -9,7 +9,9 @@ use Rattle.record.proofs.rows.read_row.Statement.{statement}
 use Rattle.record.proofs.rows.read_row.Tie as tie
 
 abbrev Inv-loop : tie.InvT-loop
-Inv-loop bytes at most count numbers₀ place₀ i₀ numbers place i = (i ≤ count) × ((length numbers ≡ 6) × (prepended (take i numbers) (readNumbers (drop i (take count most)) bytes place) ≡ readNumbers (take count most) bytes at))
+Inv-loop bytes at most count numbers₀ place₀ i₀ numbers place i =
+    (i ≤ count) × ((length numbers ≡ 6) ×
+    (prepended (take i numbers) (readNumbers (drop i (take count most)) bytes place) ≡ readNumbers (take count most) bytes at))
 
 abbrev μ-loop : tie.MeasureT-loop
 μ-loop bytes at most count numbers₀ place₀ i₀ numbers place i = count - i
@@ -33,7 +35,13 @@ enum-told : tie.Need-enum-told Inv-loop μ-loop
 enum-told c = search needs
 
 returns : tie.Need-returns Inv-loop μ-loop
-returns c = let len : length (c .before .before .before .before .before .before .before .args .limits .numbers) ≡ 6 = search needs in read-fault (c .before .before .before .before .before .before .before .args .bytes .now) (c .before .before .before .before .before .before .before .args .limits .numbers) (c .before .before .before .before .loop .numbers) (c .before .before .before .before .before .before .before .args .limits .count) (c .before .before .before .before .loop .i) (c .before .before .before .before .loop .place) _ (c .before .before .before .loop-test .taken) (omega arith) (sym (c .before .before .read-number .ensures) ∙ c .enum-told .given .1) ∙ c .before .before .before .before .loop .inv .1 .1
+returns c =
+    let args = c .before .before .before .before .before .before .before .args in
+    let loop = c .before .before .before .before .loop in
+    let len : length (args .limits .numbers) ≡ 6 = search needs in
+    read-fault (args .bytes .now) (args .limits .numbers) (loop .numbers) (args .limits .count) (loop .i) (loop .place) _
+    (c .before .before .before .loop-test .taken) (omega arith) (sym (c .before .before .read-number .ensures) ∙ c .enum-told .given .1) ∙
+    loop .inv .1 .1
 
 mul-numbers : tie.Need-mul-numbers Inv-loop μ-loop
 mul-numbers c = search needs
@@ -48,10 +56,25 @@ loop-less : tie.Need-loop-less Inv-loop μ-loop
 loop-less c = search needs
 
 loop-again : tie.Need-loop-again Inv-loop μ-loop
-loop-again c = let len : length (c .before .before .before .before .before .before .before .before .args .limits .numbers) ≡ 6 = search needs in (omega arith, (length-set (c .before .before .before .before .before .loop .numbers) (c .before .before .before .before .before .loop .i) _ ∙ c .before .before .before .before .before .loop .inv .1 .0, read-turn (c .before .before .before .before .before .before .before .before .args .bytes .now) (c .before .before .before .before .before .before .before .before .args .limits .numbers) (c .before .before .before .before .before .loop .numbers) (c .before .before .before .before .before .before .before .before .args .limits .count) (c .before .before .before .before .before .loop .i) (c .before .before .before .before .before .loop .place) _ _ (c .before .before .before .before .loop-test .taken) (omega arith) (omega arith) (sym (c .before .before .before .read-number .ensures) ∙ c .before .got .given .1) ∙ c .before .before .before .before .before .loop .inv .1 .1))
+loop-again c =
+    let args = c .before .before .before .before .before .before .before .before .args in
+    let loop = c .before .before .before .before .before .loop in
+    let len : length (args .limits .numbers) ≡ 6 = search needs in (
+      omega arith,
+      (
+        length-set (loop .numbers) (loop .i) _ ∙ loop .inv .1 .0,
+        read-turn (args .bytes .now) (args .limits .numbers) (loop .numbers) (args .limits .count) (loop .i) (loop .place) _ _
+            (c .before .before .before .before .loop-test .taken) (omega arith) (omega arith)
+            (sym (c .before .before .before .read-number .ensures) ∙ c .before .got .given .1) ∙ loop .inv .1 .1,
+      ),
+    )
 
 returns-2 : tie.Need-returns-2 Inv-loop μ-loop
-returns-2 c = read-end (c .before .before .before .before .args .bytes .now) (c .before .before .before .before .args .limits .numbers) (c .before .loop .numbers) (c .before .before .before .before .args .limits .count) (c .before .loop .i) (c .before .loop .place) (omega arith) (omega arith) ∙ c .before .loop .inv .1 .1
+returns-2 c =
+    let args = c .before .before .before .before .args in
+    let loop = c .before .loop in
+    read-end (args .bytes .now) (args .limits .numbers) (loop .numbers) (args .limits .count) (loop .i) (loop .place) (omega arith) (omega arith) ∙
+    loop .inv .1 .1
 
 pub read-row-spec : {M : Type 1} → statement M
 read-row-spec =

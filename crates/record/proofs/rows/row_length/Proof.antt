@@ -30,7 +30,8 @@ number-length-requires : tie.Need-number-length-requires Inv-loop μ-loop
 number-length-requires c κs = search needs
 
 add-size : tie.Need-add-size Inv-loop μ-loop
-add-size c = omega (arith, c .number-length .ensures, bytes-most (getD (c .before .before .before .before .args .row .numbers) (c .before .before .loop .i) 0))
+add-size c =
+    omega (arith, c .number-length .ensures, bytes-most (getD (c .before .before .before .before .args .row .numbers) (c .before .before .loop .i) 0))
 
 add-i : tie.Need-add-i Inv-loop μ-loop
 add-i c = search needs
@@ -39,10 +40,29 @@ loop-less : tie.Need-loop-less Inv-loop μ-loop
 loop-less c = search needs
 
 loop-again : tie.Need-loop-again Inv-loop μ-loop
-loop-again c = let len : length (c .before .before .before .before .args .row .numbers) ≡ 6 = search needs in (omega arith, (omega (arith, c .before .before .loop .inv .1 .0, c .number-length .ensures, ap length (bytes-turn (c .before .before .before .before .args .row .numbers) (c .before .before .loop .i) (omega arith)), length-append (bytesOfAll (take (c .before .before .loop .i) (c .before .before .before .before .args .row .numbers))) (bytesOf (getD (c .before .before .before .before .args .row .numbers) (c .before .before .loop .i) 0))), omega (arith, c .number-length .ensures, bytes-most (getD (c .before .before .before .before .args .row .numbers) (c .before .before .loop .i) 0))))
+loop-again c =
+    let args = c .before .before .before .before .args in
+    let loop = c .before .before .loop in
+    let number-length = c .number-length in
+    let len : length (args .row .numbers) ≡ 6 = search needs in (
+      omega arith,
+      (
+        omega (
+          arith,
+          loop .inv .1 .0,
+          number-length .ensures,
+          ap length (bytes-turn (args .row .numbers) (loop .i) (omega arith)),
+          length-append (bytesOfAll (take (loop .i) (args .row .numbers))) (bytesOf (getD (args .row .numbers) (loop .i) 0)),
+        ),
+        omega (arith, number-length .ensures, bytes-most (getD (args .row .numbers) (loop .i) 0)),
+      ),
+    )
 
 returns : tie.Need-returns Inv-loop μ-loop
-returns c = let e : c .before .loop .i ≡ c .before .before .before .args .row .count = omega arith in (rw e at (c .before .loop .inv .1 .0), omega arith)
+returns c =
+    let loop = c .before .loop in
+    let e : loop .i ≡ c .before .before .before .args .row .count = omega arith in
+    (rw e at (loop .inv .1 .0), omega arith)
 
 pub row-length-spec : {M : Type 1} → statement M
 row-length-spec =

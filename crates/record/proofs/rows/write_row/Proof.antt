@@ -20,14 +20,22 @@ sub-if1 c = omega arith
 
 returns : tie.Need-returns
 unfolding writtenTo
-returns c = rw (lt-leb (c .before .before .before .args .at + length (bytesOfAll (listed (c .before .before .before .args .row)))) mostBytes (omega (arith, c .before .row-length .ensures .0)))
+returns c =
+    let args = c .before .before .before .args in
+    rw (lt-leb (args .at + length (bytesOfAll (listed (args .row)))) mostBytes (omega (arith, c .before .row-length .ensures .0)))
 
 add-if2 : tie.Need-add-if2
 add-if2 c = search needs
 
 returns-2 : tie.Need-returns-2
 unfolding writtenTo
-returns-2 c = rw (le-leb (c .before .before .before .before .args .at + length (bytesOfAll (listed (c .before .before .before .before .args .row)))) mostBytes (omega (arith, c .before .before .row-length .ensures .0)), lt-leb (c .before .before .before .before .args .at + length (bytesOfAll (listed (c .before .before .before .before .args .row)))) (length (c .before .before .before .before .args .buf .now)) (omega (arith, c .before .before .row-length .ensures .0)))
+returns-2 c =
+    let args = c .before .before .before .before .args in
+    let row-length = c .before .before .row-length in
+    rw (
+      le-leb (args .at + length (bytesOfAll (listed (args .row)))) mostBytes (omega (arith, row-length .ensures .0)),
+      lt-leb (args .at + length (bytesOfAll (listed (args .row)))) (length (args .buf .now)) (omega (arith, row-length .ensures .0)),
+    )
 
 put-row-requires : tie.Need-put-row-requires
 put-row-requires c κs = search needs
@@ -37,7 +45,14 @@ same-length c = search needs
 
 returns-3 : tie.Need-returns-3
 unfolding writtenTo
-returns-3 c = rw (le-leb (c .before .before .before .before .before .before .before .before .args .at + length (bytesOfAll (listed (c .before .before .before .before .before .before .before .before .args .row)))) mostBytes (omega (arith, c .before .before .before .before .before .before .row-length .ensures .0)), le-leb (c .before .before .before .before .before .before .before .before .args .at + length (bytesOfAll (listed (c .before .before .before .before .before .before .before .before .args .row)))) (length (c .before .before .before .before .before .before .before .before .args .buf .now)) (omega (arith, c .before .before .before .before .before .before .row-length .ensures .0))) (ap (λ (p : Put). written (Past (p .past)) (p .buffer)) (c .before .before .put-row .ensures))
+returns-3 c =
+    let args = c .before .before .before .before .before .before .before .before .args in
+    let row-length = c .before .before .before .before .before .before .row-length in
+    rw (
+      le-leb (args .at + length (bytesOfAll (listed (args .row)))) mostBytes (omega (arith, row-length .ensures .0)),
+      le-leb (args .at + length (bytesOfAll (listed (args .row)))) (length (args .buf .now)) (omega (arith, row-length .ensures .0)),
+    )
+    (ap (λ (p : Put). written (Past (p .past)) (p .buffer)) (c .before .before .put-row .ensures))
 
 pub write-row-spec : {M : Type 1} → statement M
 write-row-spec =
