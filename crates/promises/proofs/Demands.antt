@@ -17,7 +17,7 @@ use Rattle.model.specs.Parts.{siteAt}
 use Rattle.model.specs.Sound.{request, reply, ofSite, messageFits, siteQueueFits, sound}
 use Rattle.model.specs.Steps.{stepOf, stepped, isDone}
 use Rattle.model.specs.Drain.{accepts, candidatesOf, quiet, drained, drainOf}
-use Rattle.promises.specs.Promises.{refuses, run, FreshSound, StepSound, RunSound, RefusedStays, RunBound, QuietMeans, QuietEmpty, Alternating, AllAnswered, MovesMost, DrainQuiet, DrainSteps, DrainFits, ChoicesMost, Roomy, RunRoomy, RecordRead, RecordOnly, ReadOnce, ReadOn, ReadAnswered, SizesFault, ReadFault, RecordWritten, WriteKeeps}
+use Rattle.promises.specs.Promises.{refuses, run, FreshSound, StepSound, RunSound, RefusedStays, RunBound, QuietMeans, QuietEmpty, Alternating, AllAnswered, MovesMost, DrainQuiet, DrainSteps, DrainFits, ChoicesMost, Roomy, RunRoomy, RecordBytes, RecordRead, RecordOnly, ReadOnce, ReadOn, ReadAnswered, SizesFault, ReadFault, RecordWritten, WriteKeeps}
 use Rattle.promises.proofs.Queues.{queue-most}
 use Rattle.promises.proofs.Sound.{Sound, opened, closed}
 use Rattle.promises.proofs.Room.{the-limits, ready, net-places}
@@ -33,7 +33,7 @@ use Rattle.promises.proofs.Readers.{sizes-faulty}
 use Rattle.promises.proofs.ReadBack.{read-back}
 use Rattle.promises.proofs.ReadOff.{read-off}
 use Rattle.promises.proofs.Endings.{step-on, all-read, same-reading, fault-placed}
-use Rattle.promises.proofs.Writes.{record-put, writes-keep}
+use Rattle.promises.proofs.Writes.{all-bytes, record-put, writes-keep}
 
 -- SOUND
 
@@ -153,6 +153,9 @@ pub run-roomy : RunRoomy
 run-roomy z t xs = roomy (run z xs) (run-kept (blank z) (fresh-sound z t) xs)
 
 -- THE RECORD
+
+pub record-bytes : RecordBytes
+record-bytes = all-bytes
 
 pub record-read : RecordRead
 record-read = read-back

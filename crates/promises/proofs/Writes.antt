@@ -1,25 +1,52 @@
--- What the writers leave: a record's bytes where they were put, and all other bytes as they were.
+-- What the writers leave: bytes, a record where it was put, and all other bytes as they were.
 use mathlib.Core.Path.{_≡_, refl, _∙_}
 use mathlib.Core.Logic.{_⊎_, inl, inr}
 use mathlib.Core.List.{List, [], _∷_, _++_, append-nil}
-use Prim.Native.Nat.{ℕ, suc, _+_, _≤_, _<_}
+use mathlib.Core.Bool.{true}
+use Prim.Native.Nat.{ℕ, zero, suc, _+_, _/_, _%_, _≤_, _<_}
 use native.Mathlib.Nat.{zero-add, add-assoc}
 use native.Mathlib.Omega.{arith}
-use lib.Dec.{leb}
+use lib.Dec.{T, leb, ltb, lt→ltb, ltb→lt}
 use lib.ListN.{length, set, getD, length-append}
 use lib.Seq.{sets, length-sets, sets-eq, getD-set-other}
 use borrow.Author.Tests.{le-leb}
-use Rattle.lists.proofs.Tests.{by-cond, T-true}
+use Rattle.lists.specs.Places.{each}
+use Rattle.lists.proofs.Tests.{by-cond, T-true, both}
+use Rattle.lists.proofs.Counts.{each-append}
 use Rattle.lists.proofs.Stores.{sets-append}
+use Rattle.numbers.specs.Groups.{encoded, mostGroups, bytesOf}
 use Rattle.model.specs.declared.Step.{Step}
 use Rattle.model.specs.declared.Refusal.{Refusal}
 use Rattle.model.specs.declared.Refusal.the-variants.{BufferShort, SizeOutside, RecordLong}
 use Rattle.model.specs.declared.Wrote.the-variants.{Past, NotWritten}
 use Rattle.model.specs.Given.{mostBytes}
 use Rattle.model.specs.Limits.{inLimits}
-use Rattle.model.specs.Record.{sizesBytes, stepBytes, stepsBytes, recordOf, written, writtenTo, writtenAt, writeSizes, writeStep}
-use Rattle.promises.specs.Reading.{writeSteps}
-use Rattle.promises.specs.Promises.{RecordWritten, Kept, WriteKeeps}
+use Rattle.model.specs.Record.{bytesOfAll, numbersOf, sizesBytes, stepBytes, stepsBytes, recordOf, written, writtenTo, writtenAt, writeSizes, writeStep}
+use Rattle.promises.specs.Reading.{bytes, writeSteps}
+use Rattle.promises.proofs.Readers.{sixOf}
+use Rattle.promises.specs.Promises.{RecordBytes, RecordWritten, Kept, WriteKeeps}
+
+-- BYTES
+
+groups-bytes : (g n : ℕ) → T (bytes (encoded g n))
+unfolding encoded each
+groups-bytes zero n = tt
+groups-bytes (suc g) n =
+    by-cond (λ (l : List ℕ). T (bytes l)) (ltb n 128) _ _ (λ t. both (ltb n 256) true (lt→ltb n 256 (omega (arith, ltb→lt n 128 t))) tt)
+    (λ t. both (ltb (128 + n % 128) 256) _ (lt→ltb (128 + n % 128) 256 (omega arith)) (groups-bytes g (n / 128)))
+
+numbers-bytes : (ns : List ℕ) → T (bytes (bytesOfAll ns))
+unfolding bytesOfAll each
+numbers-bytes [] = tt
+numbers-bytes (n ∷ ns) = each-append _ (bytesOf n) (bytesOfAll ns) (groups-bytes mostGroups n) (numbers-bytes ns)
+
+steps-bytes : (xs : List Step) → T (bytes (stepsBytes xs))
+unfolding stepsBytes each
+steps-bytes [] = tt
+steps-bytes (x ∷ xs) = each-append _ (stepBytes x) (stepsBytes xs) (numbers-bytes (numbersOf x)) (steps-bytes xs)
+
+pub all-bytes : RecordBytes
+all-bytes z xs = each-append _ (sizesBytes z) (stepsBytes xs) (numbers-bytes (sixOf z)) (steps-bytes xs)
 
 -- ONE BEHIND THE OTHER
 

@@ -133,6 +133,10 @@ RunRoomy = (z : Sizes) → T (mayBeFresh z) → (xs : List Step) → Roomy (run 
 
 -- THE RECORD
 
+-- A record is bytes.
+abbrev pub RecordBytes : Type 0
+RecordBytes = (z : Sizes) (xs : List Step) → T (bytes (recordOf z xs))
+
 -- With sizes in their limits every list of steps has a record, where that is at most 65,536 bytes long: `recordOf`, and reading it returns the
 -- sizes and that list, then "end".
 abbrev pub RecordRead : Type 0
