@@ -1,2 +1,2 @@
-pub mod Taken
+pub mod RowTurns
 pub mod ReadRow

@@ -7,7 +7,7 @@ use lib.Seq.{sets}
 use borrow.Author.Needs.{needs}
 use Rattle.numbers.specs.Groups.{bytesOf, putTo}
 use Rattle.model.specs.Record.{bytesOfAll}
-use Rattle.record.proofs.Taken.{bytes-turn, bytes-less, put-turn}
+use Rattle.record.proofs.RowTurns.{bytes-turn, bytes-less, put-turn}
 use Rattle.record.proofs.rows.put_row.Statement.{statement}
 use Rattle.record.proofs.rows.put_row.Tie as tie
 

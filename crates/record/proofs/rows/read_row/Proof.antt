@@ -4,7 +4,7 @@ use native.Mathlib.Omega.{arith}
 use lib.ListN.{length-set, length, take, drop}
 use borrow.Author.Needs.{needs}
 use Rattle.model.specs.Record.{readNumbers}
-use Rattle.record.proofs.Taken.{none-prepended, read-turn, read-fault, read-end, prepended}
+use Rattle.record.proofs.RowTurns.{none-prepended, read-turn, read-fault, read-end, prepended}
 use Rattle.record.proofs.rows.read_row.Statement.{statement}
 use Rattle.record.proofs.rows.read_row.Tie as tie
 

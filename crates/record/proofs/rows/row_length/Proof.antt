@@ -6,7 +6,7 @@ use borrow.Author.Needs.{needs}
 use Rattle.numbers.proofs.Grouped.{bytes-most}
 use Rattle.numbers.specs.Groups.{bytesOf}
 use Rattle.model.specs.Record.{bytesOfAll}
-use Rattle.record.proofs.Taken.{bytes-turn}
+use Rattle.record.proofs.RowTurns.{bytes-turn}
 use Rattle.record.proofs.rows.row_length.Statement.{statement}
 use Rattle.record.proofs.rows.row_length.Tie as tie
 
