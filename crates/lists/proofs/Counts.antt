@@ -7,7 +7,7 @@ use Prim.Native.Nat.{ℕ, zero, suc, _+_, _≤_, _<_}
 use native.Mathlib.Nat.{not-suc-le-zero, le-of-suc-le-suc, eq-or-lt-of-le, add-zero, zero-add, suc-add, add-suc}
 use native.Mathlib.Omega.{arith}
 use lib.Dec.{T}
-use lib.ListN.{length, getD, take}
+use lib.ListN.{length, getD, take, drop}
 use Rattle.lists.specs.Places.{ind, fits, weigh, tally, eachOf, sumBelow, upFrom, count, each, some, allOf}
 use Rattle.lists.proofs.Tests.{and-l, and-r, both, or-l, or-r, by-or, by-test, ind-T, ind-F, ind-most}
 use Rattle.lists.proofs.Below.{sum-same}
@@ -49,6 +49,12 @@ module _ {A : Type 0} where
   unfolding each
   each-append f [] ys t u = u
   each-append f (x ∷ xs) ys t u = both (f x) _ (and-l (f x) _ t) (each-append f xs ys (and-r (f x) _ t) u)
+
+  pub each-drop : (f : A → Bool) (n : ℕ) (xs : List A) → T (each f xs) → T (each f (drop n xs))
+  unfolding each
+  each-drop f zero xs t = t
+  each-drop f (suc n) [] t = t
+  each-drop f (suc n) (x ∷ xs) t = each-drop f n xs (and-r (f x) _ t)
 
   pub each-allOf : (f : A → Bool) (n : ℕ) (g : ℕ → List A) → ((i : ℕ) → i < n → T (each f (g i))) → T (each f (allOf n g))
   unfolding each allOf

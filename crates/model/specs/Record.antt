@@ -38,9 +38,13 @@ unfoldable pub bytesOfAll : List ℕ → List ℕ
 bytesOfAll [] = []
 bytesOfAll (n ∷ ns) = bytesOf n ++ bytesOfAll ns
 
+-- the six sizes, in the table's order
+abbrev pub sixOf : Sizes → List ℕ
+sixOf z = z .sites ∷ z .words ∷ z .lines ∷ z .sets ∷ z .pend ∷ z .stall ∷ []
+
 -- A record is the six sizes, then the steps to the end.
 abbrev pub sizesBytes : Sizes → List ℕ
-sizesBytes z = bytesOfAll (z .sites ∷ z .words ∷ z .lines ∷ z .sets ∷ z .pend ∷ z .stall ∷ [])
+sizesBytes z = bytesOfAll (sixOf z)
 
 -- address or two addresses, and the value for Storel
 unfoldable pub operands : Instruction → List ℕ

@@ -33,7 +33,7 @@ use Rattle.model.specs.Left.{outstandingLeft, messagesLeft, outstandingA
 use Rattle.model.specs.Given.{numberOf, placeGiven, given, answerGiven, refusalGiven}
 use Rattle.model.specs.Record.{Written, mostNumber, numbersOf, recordOf, readSizes, readStep, writeSizes, writeStep, bytesOfAll, operands}
 use Rattle.model.specs.Record.{stepsBytes, consed, readNumbers, sizesFrom, issueLimits, instructionOf, issueFrom, readIssue, moveOf, readMove, readFields, stepAt}
-use Rattle.model.specs.Record.{readStepOf, writtenTo}
+use Rattle.model.specs.Record.{readStepOf, writtenTo, sixOf}
 use Rattle.model.specs.Drain.{Drain, drainOf, candidates, quiet, stepsOfKind, tries, firstOf, drained}
 use Rattle.lists.specs.Places.{allBelow, sumBelow, upFrom, fits, array, weigh, unlike, removed, firstAt, count, each, some, allOf}
 use Rattle.model.specs.Limits.{inLimits}
@@ -75,7 +75,7 @@ no n = n ∷ 0 ∷ 0 ∷ 0 ∷ 0 ∷ 0 ∷ []
 
 -- what a reader or a writer gives: 0 with the offset past and what was read, or a refusal's number with its place. The end is no number.
 unfoldable pub sizesGiven : ReadSizes → List ℕ
-sizesGiven (Sized z at) = 0 ∷ at ∷ z .sites ∷ z .words ∷ z .lines ∷ z .sets ∷ z .pend ∷ z .stall ∷ []
+sizesGiven (Sized z at) = 0 ∷ at ∷ sixOf z
 sizesGiven (NoSizes r) = numberOf r ∷ placeGiven r ∷ []
 
 unfoldable pub stepGiven : ReadStep → List ℕ
@@ -139,7 +139,7 @@ unfoldable pub memoryLine : ℕ → System → List ℕ
 memoryLine L s = getD (s .memory) L pastLine .values
 
 unfoldable pub sizesNow : System → List ℕ
-sizesNow s = s .sizes .sites ∷ s .sizes .words ∷ s .sizes .lines ∷ s .sizes .sets ∷ s .sizes .pend ∷ s .sizes .stall ∷ []
+sizesNow s = sixOf (s .sizes)
 
 -- kind and line of each pend entry of a site
 unfoldable pub entryNumbers : List Entry → List ℕ

@@ -4,10 +4,12 @@ use mathlib.Core.List.{List, [], _∷_, _++_}
 use mathlib.Core.Bool.{Bool, true, false, _||_}
 use Prim.Native.Nat.{ℕ, zero, suc, _+_, _-_, _*_, _/_, _%_, _^_, _≤_, _<_}
 use native.Mathlib.Omega.{arith}
-use lib.Dec.{ltb}
-use lib.ListN.{length, drop, getD}
+use lib.Dec.{T, ltb, ltb→lt}
+use lib.ListN.{length, drop}
 use borrow.Author.Tests.{lt-ltb, le-ltb, ltb-true, ltb-false}
-use Rattle.numbers.specs.Groups.{encoded, Decoded, number, fault, above, decoded}
+use Rattle.lists.specs.Places.{each}
+use Rattle.lists.proofs.Tests.{and-l, and-r}
+use Rattle.numbers.specs.Groups.{bytes, encoded, Decoded, number, fault, above, decoded}
 
 -- THE CLAUSES BY TESTS
 
@@ -61,10 +63,7 @@ read-written (suc g) n first rest h e =
 
 -- READ, THEN WRITTEN
 
-abbrev pub Bytes : List ℕ → Type 0
-Bytes bs = (i : ℕ) → getD bs i 0 < 256
-
--- the bytes at the start are those that the writer writes of n, and no others read as n
+-- the bytes at the start are those that the writer writes of n
 pub record Was (g : ℕ) (first : Bool) (bs : List ℕ) (n k : ℕ) : Type 0 where
   pub bytes : bs ≡ encoded g n ++ drop k bs
   pub taken : k ≡ length (encoded g n)
@@ -123,11 +122,31 @@ was-by g b first bs n k h false p (number v j) q ih e =
     (ap (above (b - 128)) (sym q) ∙ sym (decoded-more g b first bs (ltb-false b 128 p)) ∙ e)
     (was-more g b first bs v j (ltb-false b 128 p) h (ih v j q))
 
--- what reads is what the writer writes, and the shortest form
-pub written-read : (g : ℕ) (first : Bool) (bs : List ℕ) (n k : ℕ) → Bytes bs → decoded g first bs ≡ number n k → Was g first bs n k
-unfolding decoded
+-- what reads is what the writer writes
+pub written-read : (g : ℕ) (first : Bool) (bs : List ℕ) (n k : ℕ) → T (bytes bs) → decoded g first bs ≡ number n k → Was g first bs n k
+unfolding decoded each
 written-read zero first bs n k h e = absurd (never e)
 written-read (suc g) first [] n k h e = absurd (never e)
 written-read (suc g) first (b ∷ bs) n k h e =
-    was-by g b first bs n k (h 0) (ltb b 128) refl (decoded g false bs) refl
-    (λ v j q. written-read g false bs v j (λ i. h (suc i)) q) e
+    was-by g b first bs n k (ltb→lt b 256 (and-l (ltb b 256) _ h)) (ltb b 128) refl (decoded g false bs) refl
+    (λ v j q. written-read g false bs v j (and-r (ltb b 256) _ h) q) e
+
+-- THE SHORTEST FORM
+
+-- a number that is written in two groups or more has no room in one less
+fewest : (g n k : ℕ) → length (encoded g n) ≡ suc (suc k) → 128 ^ suc k ≤ n
+unfolding encoded
+fewest zero n k e = absurd (omega (arith, e))
+fewest (suc g) n k e = by (ltb n 128) refl (λ j f. fewest g (n / 128) j f)
+  where
+    more : (i : ℕ) → 128 ≤ n → length (encoded g (n / 128)) ≡ suc i → ((j : ℕ) → length (encoded g (n / 128)) ≡ suc (suc j) → 128 ^ suc j ≤ n / 128) → 128 ^ suc i ≤ n
+    more zero h f ih = omega arith
+    more (suc i) h f ih = omega (arith, ih i f)
+
+    by : (b : Bool) → ltb n 128 ≡ b → ((j : ℕ) → length (encoded g (n / 128)) ≡ suc (suc j) → 128 ^ suc j ≤ n / 128) → 128 ^ suc k ≤ n
+    by true p ih = absurd (omega (arith, e, ap length (encoded-last g n (ltb-true n 128 p))))
+    by false p ih = more k (ltb-false n 128 p) (omega (arith, e, ap length (encoded-more g n (ltb-false n 128 p)))) ih
+
+-- no form but the shortest reads: what reads from several bytes has no room in fewer
+pub shortest-only : (g : ℕ) (first : Bool) (bs : List ℕ) (n k : ℕ) → T (bytes bs) → decoded g first bs ≡ number n (suc (suc k)) → 128 ^ suc k ≤ n
+shortest-only g first bs n k h e = fewest g n k (sym (written-read g first bs n (suc (suc k)) h e .taken))

@@ -6,8 +6,13 @@ use Prim.Native.Nat.{ℕ, zero, suc, _+_, _-_, _*_, _/_, _%_}
 use lib.Dec.{leb, ltb}
 use lib.ListN.{length, drop}
 use lib.Seq.{sets}
+use Rattle.lists.specs.Places.{each}
 use Rattle.numbers.specs.declared.Got.{Got}
 use Rattle.numbers.specs.declared.Got.the-variants.{Number, Fault}
+
+-- each is a byte
+abbrev pub bytes : List ℕ → Bool
+bytes bs = each (λ b. ltb b 256) bs
 
 -- WRITING
 

@@ -23,11 +23,11 @@ use Rattle.model.specs.declared.ReadStep.the-variants.{One}
 use Rattle.model.specs.Given.{mostBytes}
 use Rattle.model.specs.Limits.{inLimits}
 use Rattle.model.specs.Issue.{kindOf}
-use Rattle.model.specs.Record.{mostNumber, bytesOfAll, sizesBytes, operands, numbersOf, stepBytes, stepsBytes, recordOf, sizesFrom, readSizes, numbers, consed, readNumbers, issueLimits, instructionOf, issueFrom, readIssue, moveOf, readMove, readFields, stepAt, readStepOf}
-use Rattle.promises.specs.Reading.{recordable, whole, Reading, ended, further}
+use Rattle.model.specs.Record.{mostNumber, bytesOfAll, sixOf, sizesBytes, operands, numbersOf, stepBytes, stepsBytes, recordOf, sizesFrom, readSizes, numbers, consed, readNumbers, issueLimits, instructionOf, issueFrom, readIssue, moveOf, readMove, readFields, stepAt, readStepOf}
+use Rattle.promises.specs.Reading.{inRange, recordable, whole, Reading, ended, further}
 use Rattle.promises.specs.Promises.{RecordRead}
 use Rattle.promises.proofs.InTurn.{InTurn, noMore, oneMore, mosts}
-use Rattle.promises.proofs.Readers.{sixOf, step-within}
+use Rattle.promises.proofs.Readers.{step-within}
 use Rattle.promises.proofs.Sound.{Limits, limits}
 
 -- NUMBERS
@@ -41,7 +41,7 @@ number-back : (bs rest : List ℕ) (at v : ℕ) → v ≤ mostNumber → drop at
 unfolding readNumber limited
 number-back bs rest at v l e = rw (e, read-written 4 v true rest (omega arith) refl, le-leb v mostNumber l)
 
-numbers-back : (bs rest : List ℕ) (at : ℕ) (vs : List ℕ) → T (each (λ n. leb n mostNumber) vs) → drop at bs ≡ bytesOfAll vs ++ rest →
+numbers-back : (bs rest : List ℕ) (at : ℕ) (vs : List ℕ) → T (inRange vs) → drop at bs ≡ bytesOfAll vs ++ rest →
     InTurn bs at vs (at + length (bytesOfAll vs))
 unfolding each bytesOfAll
 numbers-back bs rest at [] t e = rw add-zero noMore
@@ -106,7 +106,7 @@ steps-back bs m at (x ∷ xs) l t e =
 -- A RECORD
 
 -- sizes in their limits are numbers of a record
-six-fit : (z : Sizes) → T (inLimits z) → T (each (λ n. leb n mostNumber) (sixOf z))
+six-fit : (z : Sizes) → T (inLimits z) → T (inRange (sixOf z))
 unfolding each
 six-fit z t =
     let l : Limits z = limits z t in

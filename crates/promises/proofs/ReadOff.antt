@@ -1,35 +1,28 @@
 -- What reads is what would be written: the bytes that numbers, sizes and steps are read from are their bytes.
 use mathlib.Core.Path.{_≡_, refl, ap, _∙_}
-use mathlib.Core.List.{List, [], _∷_, _++_, append-assoc}
+use mathlib.Core.List.{List, _++_, append-assoc}
 use mathlib.Core.Bool.{true}
-use Prim.Native.Nat.{ℕ, zero, suc, _+_}
-use native.Mathlib.Omega.{arith}
-use lib.Dec.{T, leb, ltb, le→leb, ltb→lt}
+use Prim.Native.Nat.{ℕ, _+_}
+use lib.Dec.{T, leb, ltb, le→leb}
 use lib.ListN.{drop}
-use lib.Seq.{drop-drop, drop-length, getD-drop}
+use lib.Seq.{drop-drop, drop-length}
 use Rattle.lists.specs.Places.{each}
-use Rattle.lists.proofs.Tests.{and-l, and-r, both}
-use Rattle.numbers.specs.Groups.{mostGroups, bytesOf}
-use Rattle.numbers.proofs.Codec.{Bytes, written-read}
+use Rattle.lists.proofs.Tests.{both}
+use Rattle.lists.proofs.Counts.{each-drop}
+use Rattle.numbers.specs.Groups.{bytes, mostGroups, bytesOf}
+use Rattle.numbers.proofs.Codec.{written-read}
 use Rattle.numbers.proofs.Found.{Found}
 use Rattle.model.specs.declared.Step.{Step}
-use Rattle.model.specs.Record.{mostNumber, bytesOfAll, numbersOf, sizesBytes, stepBytes, stepsBytes}
-use Rattle.promises.specs.Reading.{bytes, recordable, Ending, whole, Reading, ended, stopped, further}
+use Rattle.model.specs.Record.{mostNumber, bytesOfAll, sixOf, numbersOf, sizesBytes, stepBytes, stepsBytes}
+use Rattle.promises.specs.Reading.{inRange, recordable, Ending, whole, Reading, ended, stopped, further}
 use Rattle.promises.specs.Promises.{RecordOnly}
 use Rattle.promises.proofs.InTurn.{found, InTurn, noMore, oneMore}
-use Rattle.promises.proofs.Readers.{sixOf, SizesRead, sizes-read, step-says, step-numbers}
+use Rattle.promises.proofs.Readers.{SizesRead, sizes-read, step-says, step-numbers}
 
--- the places past the end are 0
-byte-at : (bs : List ℕ) → T (bytes bs) → Bytes bs
-unfolding each
-byte-at [] t i = omega arith
-byte-at (b ∷ bs) t zero = ltb→lt b 256 (and-l (ltb b 256) _ t)
-byte-at (b ∷ bs) t (suc i) = byte-at bs (and-r (ltb b 256) _ t) i
-
-module _ (bs : List ℕ) (h : Bytes bs) where
+module _ (bs : List ℕ) (h : T (bytes bs)) where
   number-off : (at v next : ℕ) → Found mostNumber bs at v next → drop at bs ≡ bytesOf v ++ drop next bs
   number-off at v next f =
-      written-read mostGroups true (drop at bs) v (f .size) (λ i. rw (getD-drop at bs i 0) (h (at + i))) (f .groups) .bytes ∙
+      written-read mostGroups true (drop at bs) v (f .size) (each-drop (λ b. ltb b 256) at bs h) (f .groups) .bytes ∙
       rw (drop-drop (f .size) at bs, f .past)
 
   numbers-off : (at : ℕ) (vs : List ℕ) (end : ℕ) → InTurn bs at vs end → drop at bs ≡ bytesOfAll vs ++ drop end bs
@@ -38,7 +31,7 @@ module _ (bs : List ℕ) (h : Bytes bs) where
   numbers-off at vs end (oneMore {v = v} {next = next} {vs = ws} e r) =
       number-off at v next (found bs at e) ∙ rw (numbers-off next ws end r, append-assoc)
 
-numbers-fit : (bs : List ℕ) (at : ℕ) (vs : List ℕ) (end : ℕ) → InTurn bs at vs end → T (each (λ n. leb n mostNumber) vs)
+numbers-fit : (bs : List ℕ) (at : ℕ) (vs : List ℕ) (end : ℕ) → InTurn bs at vs end → T (inRange vs)
 unfolding each
 numbers-fit bs at vs end noMore = tt
 numbers-fit bs at vs end (oneMore {v = v} {next = next} {vs = ws} e r) =
@@ -53,7 +46,7 @@ steps-fit bs at xs e (stopped a r p) = tt
 steps-fit bs at xs e (further a next x ys f p r) =
     both (recordable x) _ (numbers-fit bs a (numbersOf x) next (step-numbers bs a p)) (steps-fit bs next ys f r)
 
-steps-off : (bs : List ℕ) → Bytes bs → (at : ℕ) (xs : List Step) → Reading bs at xs whole → drop at bs ≡ stepsBytes xs
+steps-off : (bs : List ℕ) → T (bytes bs) → (at : ℕ) (xs : List Step) → Reading bs at xs whole → drop at bs ≡ stepsBytes xs
 unfolding stepsBytes
 steps-off bs h at xs (ended a p) = rw (rw p at (step-says bs at)) (drop-length bs)
 steps-off bs h at xs (further a next x ys e p r) =
@@ -62,9 +55,8 @@ steps-off bs h at xs (further a next x ys e p r) =
 pub read-off : RecordOnly
 read-off bs t z xs r =
     let s : SizesRead bs z (r .past) = sizes-read bs (r .sizes) in
-    let h : Bytes bs = byte-at bs t in
     record {
-      record-bytes = numbers-off bs h 0 (sixOf z) (r .past) (s .six) ∙ ap (λ (l : List ℕ). sizesBytes z ++ l) (steps-off bs h (r .past) xs (r .steps));
+      record-bytes = numbers-off bs t 0 (sixOf z) (r .past) (s .six) ∙ ap (λ (l : List ℕ). sizesBytes z ++ l) (steps-off bs t (r .past) xs (r .steps));
       limits = s .limits;
       numbers = steps-fit bs (r .past) xs whole (r .steps);
       short = s .short;

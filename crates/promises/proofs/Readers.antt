@@ -23,7 +23,7 @@ use Rattle.model.specs.Given.{mostBytes}
 use Rattle.model.specs.Limits.{inLimits}
 use Rattle.model.specs.Kinds.{storel, reconcile}
 use Rattle.model.specs.Issue.{kindOf}
-use Rattle.model.specs.Record.{mostNumber, operands, numbersOf, Numbers, numbers, faultAt, readNumbers, sizesOf, sizesFrom, readSizes, issueLimits, instructionOf, issueFrom, readIssue, moveOf, readMove, readFields, stepAt, readStepOf, readStep}
+use Rattle.model.specs.Record.{mostNumber, sixOf, operands, numbersOf, Numbers, numbers, faultAt, readNumbers, sizesOf, sizesFrom, readSizes, issueLimits, instructionOf, issueFrom, readIssue, moveOf, readMove, readFields, stepAt, readStepOf, readStep}
 use Rattle.promises.specs.Promises.{Faulty, tooLong, faultAt, SizesFault}
 use Rattle.promises.proofs.InTurn.{found, by-number, InTurn, noMore, oneMore, mosts, NumbersSay, numbers-say}
 
@@ -43,9 +43,6 @@ by-places n vs e = rw (← e) (all vs)
     all (w ∷ ws) = ap (λ (l : List ℕ). w ∷ l) (all ws)
 
 -- SIZES
-
-abbrev pub sixOf : Sizes → List ℕ
-sixOf z = z .sites ∷ z .words ∷ z .lines ∷ z .sets ∷ z .pend ∷ z .stall ∷ []
 
 -- the six are read first, in their limits, of bytes that are no more than a record's most
 pub record SizesRead (bs : List ℕ) (z : Sizes) (past : ℕ) : Type 0 where

@@ -14,16 +14,15 @@ use Rattle.lists.specs.Places.{each}
 use Rattle.lists.proofs.Tests.{by-cond, T-true, both}
 use Rattle.lists.proofs.Counts.{each-append}
 use Rattle.lists.proofs.Stores.{sets-append}
-use Rattle.numbers.specs.Groups.{encoded, mostGroups, bytesOf}
+use Rattle.numbers.specs.Groups.{bytes, encoded, mostGroups, bytesOf}
 use Rattle.model.specs.declared.Step.{Step}
 use Rattle.model.specs.declared.Refusal.{Refusal}
 use Rattle.model.specs.declared.Refusal.the-variants.{BufferShort, SizeOutside, RecordLong}
 use Rattle.model.specs.declared.Wrote.the-variants.{Past, NotWritten}
 use Rattle.model.specs.Given.{mostBytes}
 use Rattle.model.specs.Limits.{inLimits}
-use Rattle.model.specs.Record.{bytesOfAll, numbersOf, sizesBytes, stepBytes, stepsBytes, recordOf, written, writtenTo, writtenAt, writeSizes, writeStep}
-use Rattle.promises.specs.Reading.{bytes, writeSteps}
-use Rattle.promises.proofs.Readers.{sixOf}
+use Rattle.model.specs.Record.{bytesOfAll, sixOf, numbersOf, sizesBytes, stepBytes, stepsBytes, recordOf, written, writtenTo, writtenAt, writeSizes, writeStep}
+use Rattle.promises.specs.Reading.{writeSteps}
 use Rattle.promises.specs.Promises.{RecordBytes, RecordWritten, Kept, WriteKeeps}
 
 -- BYTES

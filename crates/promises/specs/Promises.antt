@@ -7,6 +7,7 @@ use Prim.Native.Nat.{ℕ, _+_, _*_, _≤_, _<_, min}
 use lib.Dec.{T}
 use lib.ListN.{length, drop, getD}
 use Rattle.lists.specs.Places.{count, each}
+use Rattle.numbers.specs.Groups.{bytes}
 use Rattle.model.specs.declared.Sizes.{Sizes}
 use Rattle.model.specs.declared.System.{System}
 use Rattle.model.specs.declared.Step.{Step}
@@ -23,7 +24,7 @@ use Rattle.model.specs.Steps.{stepped, isDone}
 use Rattle.model.specs.Given.{mostBytes}
 use Rattle.model.specs.Record.{stepsBytes, recordOf, readSizes, readStep, Written, written, writeSizes, writeStep}
 use Rattle.model.specs.Drain.{candidatesOf, quiet, drained, drainOf}
-use Rattle.promises.specs.Reading.{bytes, recordable, Ending, whole, broken, Reading, IsRecord, Read, writeRecord}
+use Rattle.promises.specs.Reading.{recordable, Ending, whole, broken, Reading, ReadsAs, Read, writeRecord}
 use Rattle.promises.specs.Runs.{afterRun, accepted, isMove, issuesTrip, issuesReconcile, sameMove, events, free, alternate, isIssued, isAnswered}
 
 -- a step that the state refuses
@@ -141,10 +142,10 @@ RecordBytes = (z : Sizes) (xs : List Step) → T (bytes (recordOf z xs))
 -- sizes and that list, then "end".
 abbrev pub RecordRead : Type 0
 RecordRead =
-    (z : Sizes) (xs : List Step) → T (inLimits z) → T (each recordable xs) → length (recordOf z xs) ≤ mostBytes → IsRecord (recordOf z xs) z xs
+    (z : Sizes) (xs : List Step) → T (inLimits z) → T (each recordable xs) → length (recordOf z xs) ≤ mostBytes → ReadsAs (recordOf z xs) z xs
 
 -- some bytes are the record of sizes in their limits and of a list of steps
-pub record RecordOf (bs : List ℕ) (z : Sizes) (xs : List Step) : Type 0 where
+pub record Recorded (bs : List ℕ) (z : Sizes) (xs : List Step) : Type 0 where
   pub record-bytes : bs ≡ recordOf z xs
   pub limits : T (inLimits z)
   pub numbers : T (each recordable xs)
@@ -152,7 +153,7 @@ pub record RecordOf (bs : List ℕ) (z : Sizes) (xs : List Step) : Type 0 where
 
 -- Exactly one: any bytes that read to the end without a fault are the record of what was read.
 abbrev pub RecordOnly : Type 0
-RecordOnly = (bs : List ℕ) → T (bytes bs) → (z : Sizes) (xs : List Step) → IsRecord bs z xs → RecordOf bs z xs
+RecordOnly = (bs : List ℕ) → T (bytes bs) → (z : Sizes) (xs : List Step) → ReadsAs bs z xs → Recorded bs z xs
 
 -- Reading has one outcome: no bytes are the record of two lists of steps, or of a list and refused.
 abbrev pub ReadOnce : Type 0

@@ -3,7 +3,7 @@ use mathlib.Core.Path.{_≡_}
 use mathlib.Core.List.{List, [], _∷_}
 use mathlib.Core.Bool.{Bool}
 use Prim.Native.Nat.{ℕ}
-use lib.Dec.{leb, ltb}
+use lib.Dec.{leb}
 use Rattle.lists.specs.Places.{each}
 use Rattle.model.specs.declared.Sizes.{Sizes}
 use Rattle.model.specs.declared.Step.{Step}
@@ -13,13 +13,13 @@ use Rattle.model.specs.declared.ReadStep.the-variants.{One, End, NoStep}
 use Rattle.model.specs.declared.Wrote.the-variants.{Past, NotWritten}
 use Rattle.model.specs.Record.{mostNumber, numbersOf, readSizes, readStep, Written, writeSizes, writeStep}
 
--- each is a byte
-abbrev pub bytes : List ℕ → Bool
-bytes bs = each (λ b. ltb b 256) bs
+-- each is a number of a record
+abbrev pub inRange : List ℕ → Bool
+inRange vs = each (λ n. leb n mostNumber) vs
 
 -- the numbers of a step are numbers of a record, as those of every step of the code are
 abbrev pub recordable : Step → Bool
-recordable x = each (λ n. leb n mostNumber) (numbersOf x)
+recordable x = inRange (numbersOf x)
 
 -- READING
 
@@ -35,14 +35,14 @@ pub data Reading (bs : List ℕ) : ℕ → List Step → Ending → Type 0 where
   further : (at next : ℕ) (x : Step) (xs : List Step) (e : Ending) → readStep bs at ≡ One x next → Reading bs next xs e → Reading bs at (x ∷ xs) e
 
 -- the bytes are read as sizes and steps to the end
-pub record IsRecord (bs : List ℕ) (z : Sizes) (xs : List Step) : Type 0 where
+pub record ReadsAs (bs : List ℕ) (z : Sizes) (xs : List Step) : Type 0 where
   pub past : ℕ
   pub sizes : readSizes bs ≡ Sized z past
   pub steps : Reading bs past xs whole
 
 -- what comes of reading some bytes: they are a record, or their sizes are refused, or one of their steps is
 pub data Read (bs : List ℕ) : Type 0 where
-  asRecord : (z : Sizes) (xs : List Step) → IsRecord bs z xs → Read bs
+  asRecord : (z : Sizes) (xs : List Step) → ReadsAs bs z xs → Read bs
   sizesRefused : (r : Refusal) → readSizes bs ≡ NoSizes r → Read bs
   stepRefused : (z : Sizes) (past : ℕ) (xs : List Step) (r : Refusal) → readSizes bs ≡ Sized z past → Reading bs past xs (broken r) → Read bs
 

@@ -3,7 +3,7 @@ ghost use mathlib.Core.Path.{_≡_};
 ghost use mathlib.Core.List.{[], _∷_};
 ghost use Prim.Native.Nat.{_≤_, min};
 ghost use Rattle.model.specs.declared.Step.the-variants.{Issue};
-ghost use Rattle.model.specs.Record.{numbersOf, instructionOf, moveOf};
+ghost use Rattle.model.specs.Record.{sixOf, numbersOf, instructionOf, moveOf};
 ghost use Rattle.record.specs.Rows.{listed, capped};
 use crate::rows::Row;
 use model::Instruction;
@@ -88,7 +88,7 @@ fn two_operands(site: u32, kind: u32, tag: u32, first: u32, second: u32) -> Row
 }
 
 pub(crate) fn sizes_row(z: Sizes) -> Row
-    ensures { λ r. ⌜ listed r ≡ z .sites ∷ z .words ∷ z .lines ∷ z .sets ∷ z .pend ∷ z .stall ∷ [] ⌝ }
+    ensures { λ r. ⌜ listed r ≡ sixOf z ⌝ }
     ensures count { λ r. ⌜ r .count ≤ 6 ⌝ }
 {
     Row {
