@@ -1,4 +1,4 @@
-// Document 01's samples that no statement proves: the listing of its section Replay, and sizes alone.
+// Document 01's samples that no statement proves: the listing of its section Replay, sizes alone, and an empty record.
 ghost use mathlib.Core.Path.{_≡_};
 ghost use mathlib.Core.Bool.{true};
 ghost use Prim.Native.Nat.{_≤_};
@@ -11,12 +11,14 @@ use model::Answer;
 use model::Instruction;
 use model::Outcome;
 use model::Pends;
+use model::ReadSizes;
 use model::Refusal;
 use model::SiteQueue;
 use model::Sizes;
 use model::Stalls;
 use model::Step;
 use model::System;
+use record::read_sizes;
 use steps::step_sound;
 
 // A word, and a number behind it.
@@ -70,6 +72,25 @@ fn number(why: Refusal) -> u64
         Refusal::SizeOutside => 12,
         Refusal::RecordLong => 13,
     }
+}
+
+// The place that document 01 gives with a refusal's number.
+fn place(why: Refusal) -> u64 {
+    match why {
+        Refusal::NoRecord(at) => at as u64,
+        Refusal::RecordLong => 65536,
+        _ => 0,
+    }
+}
+
+// The line of a record whose sizes are refused.
+fn put_refused(got: ReadSizes) {
+    let ReadSizes::NoSizes(why) = got else {
+        return;
+    };
+    put(b"record ", number(why));
+    put(b" at ", place(why));
+    write_all(1, b"\n");
 }
 
 fn put_answer(a: Answer) {
@@ -204,4 +225,7 @@ fn main() {
     // Sizes alone.
     let alone = begun(z);
     put_left(alone);
+    // An empty record.
+    let empty = read_sizes(b"");
+    put_refused(empty);
 }

@@ -187,9 +187,7 @@ fn random_strings(count: u32) -> Seen {
     seen
 }
 
-fn drawn(state: u64) -> u64
-    ensures { λ r. ⌜ r < 4294967296 ⌝ }
-{
+fn drawn(state: u64) -> u64 {
     (state % 4294967296 * 1664525 + 1013904223) % 4294967296
 }
 

@@ -39,6 +39,15 @@ begun-requires-2 c κs = refl
 put-left-requires-2 : tie.Need-put-left-requires-2
 put-left-requires-2 c κs = search needs
 
+slice-aggregate-read-sizes : tie.Need-slice-aggregate-read-sizes
+slice-aggregate-read-sizes c = search needs
+
+read-sizes-requires : tie.Need-read-sizes-requires
+read-sizes-requires c κs = search needs
+
+put-refused-requires : tie.Need-put-refused-requires
+put-refused-requires c κs = search needs
+
 returns : tie.Need-returns
 returns c = search needs
 
@@ -57,4 +66,7 @@ main-spec =
     put-left-requires
     begun-requires-2
     put-left-requires-2
+    slice-aggregate-read-sizes
+    read-sizes-requires
+    put-refused-requires
     returns)
