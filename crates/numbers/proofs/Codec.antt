@@ -1,4 +1,4 @@
--- The codec's facts, over the count of groups: what is written is read back whatever follows it, and what is read is what would be written.
+-- The codec's facts, over the count of groups: what is written is read back whatever follows it, and what is read is what would be written, the shortest form.
 use mathlib.Core.Path.{_≡_, refl, ap, sym, _∙_, subst}
 use mathlib.Core.List.{List, [], _∷_, _++_}
 use mathlib.Core.Bool.{Bool, true, false, _||_}
@@ -134,16 +134,19 @@ written-read (suc g) first (b ∷ bs) n k h e =
 -- THE SHORTEST FORM
 
 -- a number that is written in two groups or more has no room in one less
-fewest : (g n k : ℕ) → length (encoded g n) ≡ suc (suc k) → 128 ^ suc k ≤ n
+abbrev Fewest : ℕ → ℕ → Type 0
+Fewest g n = (k : ℕ) → length (encoded g n) ≡ suc (suc k) → 128 ^ suc k ≤ n
+
+fewest : (g n : ℕ) → Fewest g n
 unfolding encoded
 fewest zero n k e = absurd (omega (arith, e))
-fewest (suc g) n k e = by (ltb n 128) refl (λ j f. fewest g (n / 128) j f)
+fewest (suc g) n k e = by (ltb n 128) refl (fewest g (n / 128))
   where
-    more : (i : ℕ) → 128 ≤ n → length (encoded g (n / 128)) ≡ suc i → ((j : ℕ) → length (encoded g (n / 128)) ≡ suc (suc j) → 128 ^ suc j ≤ n / 128) → 128 ^ suc i ≤ n
+    more : (i : ℕ) → 128 ≤ n → length (encoded g (n / 128)) ≡ suc i → Fewest g (n / 128) → 128 ^ suc i ≤ n
     more zero h f ih = omega arith
     more (suc i) h f ih = omega (arith, ih i f)
 
-    by : (b : Bool) → ltb n 128 ≡ b → ((j : ℕ) → length (encoded g (n / 128)) ≡ suc (suc j) → 128 ^ suc j ≤ n / 128) → 128 ^ suc k ≤ n
+    by : (b : Bool) → ltb n 128 ≡ b → Fewest g (n / 128) → 128 ^ suc k ≤ n
     by true p ih = absurd (omega (arith, e, ap length (encoded-last g n (ltb-true n 128 p))))
     by false p ih = more k (ltb-false n 128 p) (omega (arith, e, ap length (encoded-more g n (ltb-false n 128 p)))) ih
 
