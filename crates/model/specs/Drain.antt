@@ -95,15 +95,17 @@ pub record Drain : Type 0 where
   pub result : Drained
   pub buffer : List ℕ
 
+abbrev pub drainGives : Drained → List ℕ → Drain
+drainGives r buf = record { result = r; buffer = buf }
+
 abbrev pub notDrained : Refusal → System → List ℕ → Drain
-notDrained r s buf = record { result = record { outcome = Refused r; count = 0; quiet = false; length = 0; system = s }; buffer = buf }
+notDrained r s buf = drainGives (record { outcome = Refused r; count = 0; quiet = false; length = 0; system = s }) buf
 
 -- It writes the steps' record bytes into the lent buffer from its start, giving their length. Bytes past the length stay.
 abbrev pub drainedInto : Taken → List ℕ → List ℕ → Drain
-drainedInto d bytes buf = record {
-  result = record { outcome = Done Nothing; count = length (d .steps); quiet = quiet (d .state); length = length bytes; system = d .state };
-  buffer = sets buf 0 bytes;
-}
+drainedInto d bytes buf =
+    drainGives (record { outcome = Done Nothing; count = length (d .steps); quiet = quiet (d .state); length = length bytes; system = d .state })
+    (sets buf 0 bytes)
 
 abbrev pub drainedWith : Taken → List ℕ → Drain
 drainedWith d buf = drainedInto d (stepsBytes (d .steps)) buf
