@@ -17,7 +17,7 @@ use Rattle.model.specs.Parts.{siteAt}
 use Rattle.model.specs.Sound.{request, reply, ofSite, messageFits, siteQueueFits, sound}
 use Rattle.model.specs.Steps.{stepOf, stepped, isDone}
 use Rattle.model.specs.Drain.{accepts, candidatesOf, quiet, drained, drainOf}
-use Rattle.promises.specs.Promises.{refuses, run, FreshSound, StepSound, RunSound, RefusedStays, RunBound, QuietMeans, QuietEmpty, Alternating, AllAnswered, MovesMost, DrainQuiet, DrainSteps, DrainFits, ChoicesMost, Roomy, RunRoomy, RecordBytes, RecordRead, RecordOnly, ReadOnce, ReadOn, ReadAnswered, SizesFault, ReadFault, RecordWritten, WriteKeeps}
+use Rattle.promises.specs.Promises.{refuses, run, FreshSound, StepSound, RunSound, RefusedStays, RunBound, QuietMeans, QuietEmpty, Alternating, AllAnswered, MovesMost, DrainQuiet, DrainSteps, DrainFits, DrainRead, DrainKeeps, ChoicesMost, Roomy, RunRoomy, RecordBytes, RecordRead, RecordOnly, ReadOnce, ReadOn, ReadAnswered, SizesFault, ReadFault, RecordWritten, WriteKeeps}
 use Rattle.promises.proofs.Queues.{queue-most}
 use Rattle.promises.proofs.Sound.{Sound, opened, closed}
 use Rattle.promises.proofs.Room.{the-limits, ready, net-places}
@@ -34,6 +34,7 @@ use Rattle.promises.proofs.ReadBack.{read-back}
 use Rattle.promises.proofs.ReadOff.{read-off}
 use Rattle.promises.proofs.Endings.{step-on, all-read, same-reading, fault-placed}
 use Rattle.promises.proofs.Writes.{all-bytes, record-put, writes-keep}
+use Rattle.promises.proofs.Drained.{drained-read, drained-kept}
 
 -- SOUND
 
@@ -112,6 +113,12 @@ drain-quiet s t b l buf k =
 
 pub drain-fits : DrainFits
 drain-fits s t b = drained-bytes b s (opened s t)
+
+pub drain-read : DrainRead
+drain-read = drained-read
+
+pub drain-keeps : DrainKeeps
+drain-keeps = drained-kept
 
 -- THE CHOICES
 

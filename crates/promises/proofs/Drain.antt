@@ -1,14 +1,14 @@
 -- The drain: each step that it takes is accepted and no issue, its steps lead to the state that it leaves, and that state is quiet unless the budget is spent.
 use mathlib.Core.Path.{_≡_, refl, ap, _∙_}
 use mathlib.Core.List.{List, [], _∷_}
-use mathlib.Core.Bool.{Bool, _&&_}
+use mathlib.Core.Bool.{Bool, true, false, _&&_}
 use Prim.Native.Nat.{ℕ, zero, suc, _+_, _*_, _≤_, _<_, min}
 use native.Mathlib.Omega.{arith}
-use lib.Dec.{T, ltb→lt}
+use lib.Dec.{T, leb, ltb, ltb→lt, lt→ltb, le→leb}
 use lib.ListN.{length, length-append}
 use Rattle.lists.specs.Places.{each}
-use Rattle.lists.proofs.Tests.{and-l, and-r, both, by-cond, ind-T}
-use Rattle.numbers.specs.Groups.{encoded}
+use Rattle.lists.proofs.Tests.{and-l, and-r, both, by-cond, ind-T, T-true, F-false, not-T, T-not}
+use Rattle.lists.proofs.Counts.{each-map}
 use Rattle.numbers.proofs.Grouped.{bytes-last}
 use Rattle.model.specs.declared.System.{System}
 use Rattle.model.specs.declared.After.{After}
@@ -16,8 +16,9 @@ use Rattle.model.specs.declared.Step.{Step}
 use Rattle.model.specs.declared.Step.the-variants.{Issue, Retry, Send, ArriveMemory, Serve, SendBack, ArriveSite, Take}
 use Rattle.model.specs.Limits.{mostDrain}
 use Rattle.model.specs.Steps.{stepOf}
-use Rattle.model.specs.Record.{bytesOfAll, numbersOf, stepBytes, stepsBytes}
+use Rattle.model.specs.Record.{mostNumber, bytesOfAll, numbersOf, stepBytes, stepsBytes}
 use Rattle.model.specs.Drain.{accepts, quiet, tries, Choice, chosen, none, firstOf, nextStep, Taken, further, drained}
+use Rattle.promises.specs.Reading.{recordable}
 use Rattle.promises.specs.Runs.{afterRun, accepted, isMove}
 use Rattle.promises.proofs.Sound.{Sound}
 use Rattle.promises.proofs.Room.{the-limits}
@@ -26,7 +27,7 @@ use Rattle.promises.proofs.Kept.{kept}
 use Rattle.promises.proofs.Potential.{potential, potential-most}
 use Rattle.promises.proofs.Bound.{moves-fall}
 use Rattle.promises.proofs.Named.{named, named-move, tries-named}
-use Rattle.promises.proofs.Quiet.{denies, tries-quiet}
+use Rattle.promises.proofs.Quiet.{denies, quiet-all, tries-quiet}
 
 -- THE STEP THAT IT TAKES NEXT
 
@@ -62,22 +63,58 @@ next s h = go (nextStep s) (pick s (tryOf s) (tries (s .sizes .sites)) (tries-na
     go c (picked x k a) = goesOn x k a
     go c (unpicked t) = rests (tries-quiet s h t)
 
+-- no step is next
+abbrev pub isNone : Choice → Bool
+isNone (chosen x t) = false
+isNone none = true
+
+-- quiet is: no step is next
+pub quiet-next : (s : System) → Sound s → quiet s ≡ isNone (nextStep s)
+quiet-next s h = go (nextStep s) (next s h)
+  where
+    go : (c : Choice) → Next s c → quiet s ≡ isNone c
+    go c (goesOn x k a) =
+        F-false (quiet s) (not-T (quiet s) (λ q. T-not (accepts s x) (quiet-all s h q x (named-move (s .sizes .sites) 1 1 x k)) a))
+    go c (rests q) = T-true (quiet s) q
+
 -- ITS BYTES
 
-two-numbers : (k n : ℕ) → k < 128 → n < 128 → length (bytesOfAll (k ∷ n ∷ [])) ≤ 2
-unfolding bytesOfAll
-two-numbers k n l m = rw (bytes-last k l, bytes-last n m) (omega arith)
+-- numbers of one byte each
+abbrev small : List ℕ → Bool
+small vs = each (λ v. ltb v 128) vs
 
-two-bytes : (n : ℕ) → n ≤ 4 → (x : Step) → T (named n 1 1 x) → length (stepBytes x) ≤ 2
-unfolding named numbersOf bytesOfAll encoded
-two-bytes n l (Issue i t m) k = absurd k
-two-bytes n l (Retry i) k = two-numbers 1 i (omega arith) (omega (arith, ltb→lt i n k))
-two-bytes n l (Send i) k = two-numbers 2 i (omega arith) (omega (arith, ltb→lt i n k))
-two-bytes n l (ArriveMemory p) k = two-numbers 3 p (omega arith) (omega (arith, ltb→lt p 1 k))
-two-bytes n l Serve k = omega arith
-two-bytes n l SendBack k = omega arith
-two-bytes n l (ArriveSite p) k = two-numbers 6 p (omega arith) (omega (arith, ltb→lt p 1 k))
-two-bytes n l (Take i) k = two-numbers 7 i (omega arith) (omega (arith, ltb→lt i n k))
+small-bytes : (vs : List ℕ) → T (small vs) → length (bytesOfAll vs) ≡ length vs
+unfolding bytesOfAll each
+small-bytes [] t = refl
+small-bytes (v ∷ vs) t = rw (bytes-last v (ltb→lt v 128 (and-l (ltb v 128) _ t)), small-bytes vs (and-r (ltb v 128) _ t))
+
+-- at most two such numbers
+record Short (vs : List ℕ) : Type 0 where
+  most : length vs ≤ 2
+  bytes : T (small vs)
+
+two-numbers : (k v : ℕ) → T (ltb k 128) → v < 128 → Short (k ∷ v ∷ [])
+unfolding each
+two-numbers k v t l = record { most = omega arith; bytes = both (ltb k 128) _ t (both (ltb v 128) true (lt→ltb v 128 l) tt) }
+
+-- as a try has
+try-short : (n : ℕ) → n ≤ 4 → (x : Step) → T (named n 1 1 x) → Short (numbersOf x)
+unfolding named numbersOf each
+try-short n l (Issue i t m) k = absurd k
+try-short n l (Retry i) k = two-numbers 1 i tt (omega (arith, ltb→lt i n k))
+try-short n l (Send i) k = two-numbers 2 i tt (omega (arith, ltb→lt i n k))
+try-short n l (ArriveMemory p) k = two-numbers 3 p tt (omega (arith, ltb→lt p 1 k))
+try-short n l Serve k = record { most = omega arith; bytes = tt }
+try-short n l SendBack k = record { most = omega arith; bytes = tt }
+try-short n l (ArriveSite p) k = two-numbers 6 p tt (omega (arith, ltb→lt p 1 k))
+try-short n l (Take i) k = two-numbers 7 i tt (omega (arith, ltb→lt i n k))
+
+two-bytes : (x : Step) → Short (numbersOf x) → length (stepBytes x) ≤ 2
+two-bytes x r = omega (arith, small-bytes (numbersOf x) (r .bytes), r .most)
+
+short-recordable : (x : Step) → Short (numbersOf x) → T (recordable x)
+short-recordable x r =
+    each-map (λ v. ltb v 128) (λ v. leb v mostNumber) (λ v t. le→leb v mostNumber (omega (arith, ltb→lt v 128 t))) (numbersOf x) (r .bytes)
 
 -- THE STEPS TAKEN
 
@@ -97,25 +134,29 @@ pub record Leaves (b : ℕ) (s : System) (d : Taken) : Type 0 where
   pub keeps : Sound (d .state)
   pub leads : afterRun s (d .steps) ≡ d .state
   pub taken : accepted isMove s (d .steps) ≡ length (d .steps)
-  -- in two bytes each at most
+  -- steps that a record has, in two bytes each at most
+  pub written : T (each recordable (d .steps))
   pub bytes : length (stepsBytes (d .steps)) ≤ 2 * length (d .steps)
 
 none-taken : (b : ℕ) (s : System) → Sound s → (0 < b → T (quiet s)) → Leaves b s (record { steps = []; state = s })
-unfolding afterRun accepted stepsBytes
-none-taken b s h q = record { most = omega arith; short = q; keeps = h; leads = refl; taken = refl; bytes = omega arith }
+unfolding afterRun accepted stepsBytes each
+none-taken b s h q = record { most = omega arith; short = q; keeps = h; leads = refl; taken = refl; written = tt; bytes = omega arith }
 
 one-more : (b : ℕ) (s : System) → Sound s → (x : Step) (d : Taken) → T (tryOf s x) → T (accepts s x) → Leaves b (stepOf s x .system) d →
     Leaves (suc b) s (further x d)
-unfolding afterRun accepted stepsBytes
-one-more b s h x d k a r = record {
-  most = omega arith;
-  short = λ l. r .short (omega arith);
-  keeps = r .keeps;
-  leads = ap (λ (q : After). afterRun (q .system) (d .steps)) (stepped-sound s h x) ∙ r .leads;
-  taken =
-      rw (stepped-sound s h x) (omega (arith, ind-T (accepts s x && isMove x) (both (accepts s x) _ a (named-move (s .sizes .sites) 1 1 x k)), r .taken));
-  bytes = omega (arith, length-append (stepBytes x) (stepsBytes (d .steps)), two-bytes (s .sizes .sites) (the-limits s h .sites-most) x k, r .bytes);
-}
+unfolding afterRun accepted stepsBytes each
+one-more b s h x d k a r =
+    let two : Short (numbersOf x) = try-short (s .sizes .sites) (the-limits s h .sites-most) x k in
+    record {
+      most = omega arith;
+      short = λ l. r .short (omega arith);
+      keeps = r .keeps;
+      leads = ap (λ (q : After). afterRun (q .system) (d .steps)) (stepped-sound s h x) ∙ r .leads;
+      taken =
+          rw (stepped-sound s h x) (omega (arith, ind-T (accepts s x && isMove x) (both (accepts s x) _ a (named-move (s .sizes .sites) 1 1 x k)), r .taken));
+      written = both (recordable x) _ (short-recordable x two) (r .written);
+      bytes = omega (arith, length-append (stepBytes x) (stepsBytes (d .steps)), two-bytes x two, r .bytes);
+    }
 
 pub drains : (b : ℕ) (s : System) → Sound s → Drains b s (drained b s)
 unfolding drained

@@ -29,4 +29,5 @@ pub mod ReadBack
 pub mod ReadOff
 pub mod Endings
 pub mod Writes
+pub mod Drained
 pub mod Demands

@@ -89,7 +89,7 @@ step-back bs at next SendBack (oneMore e noMore) = cc
 step-back bs at next (ArriveSite p) (oneMore e (oneMore f noMore)) = cc
 step-back bs at next (Take i) (oneMore e (oneMore f noMore)) = cc
 
-steps-back : (bs : List ℕ) → length bs ≤ mostBytes → (at : ℕ) (xs : List Step) → at ≤ length bs → T (each recordable xs) → drop at bs ≡ stepsBytes xs →
+pub steps-back : (bs : List ℕ) → length bs ≤ mostBytes → (at : ℕ) (xs : List Step) → at ≤ length bs → T (each recordable xs) → drop at bs ≡ stepsBytes xs →
     Reading bs at xs whole
 unfolding each stepsBytes readStepOf
 steps-back bs m at [] l t e =

@@ -77,7 +77,7 @@ refusal-kept : (at : ℕ) (buf : List ℕ) (r : Refusal) → Kept at buf (writte
 refusal-kept at buf r = record { length-kept = refl; refused-kept = λ s e. refl; others-kept = λ end i e h. refl }
 
 -- a place before them, or past them
-sets-kept : (new buf : List ℕ) (at i : ℕ) → (at ≤ i → at + length new ≤ i) → getD (sets buf at new) i 0 ≡ getD buf i 0
+pub sets-kept : (new buf : List ℕ) (at i : ℕ) → (at ≤ i → at + length new ≤ i) → getD (sets buf at new) i 0 ≡ getD buf i 0
 sets-kept [] buf at i h = refl
 sets-kept (v ∷ new) buf at i h =
     sets-kept new (set buf at v) (suc at) i (λ k. omega (arith, h (omega arith))) ∙ getD-set-other buf at i v 0 (λ e. omega (arith, h (omega arith)))

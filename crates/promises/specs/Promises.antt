@@ -5,7 +5,7 @@ use mathlib.Core.List.{List, [], _++_, List·Memᴰ}
 use mathlib.Core.Bool.{Bool, true, not}
 use Prim.Native.Nat.{ℕ, _+_, _*_, _≤_, _<_, min}
 use lib.Dec.{T}
-use lib.ListN.{length, drop, getD}
+use lib.ListN.{length, take, drop, getD}
 use Rattle.lists.specs.Places.{count, each}
 use Rattle.numbers.specs.Groups.{bytes}
 use Rattle.model.specs.declared.Sizes.{Sizes}
@@ -13,6 +13,7 @@ use Rattle.model.specs.declared.System.{System}
 use Rattle.model.specs.declared.Step.{Step}
 use Rattle.model.specs.declared.Refusal.{Refusal}
 use Rattle.model.specs.declared.Refusal.the-variants.{NoRecord, SizeOutside, RecordLong}
+use Rattle.model.specs.declared.Outcome.the-variants.{Refused}
 use Rattle.model.specs.declared.ReadSizes.the-variants.{NoSizes}
 use Rattle.model.specs.declared.ReadStep.the-variants.{One}
 use Rattle.model.specs.declared.Wrote.the-variants.{Past, NotWritten}
@@ -23,7 +24,7 @@ use Rattle.model.specs.Sound.{sound, underWay}
 use Rattle.model.specs.Steps.{stepped, isDone}
 use Rattle.model.specs.Given.{mostBytes}
 use Rattle.model.specs.Record.{stepsBytes, recordOf, readSizes, readStep, Written, written, writeSizes, writeStep}
-use Rattle.model.specs.Drain.{candidatesOf, quiet, drained, drainOf}
+use Rattle.model.specs.Drain.{candidatesOf, quiet, drained, Drain, drainOf}
 use Rattle.promises.specs.Reading.{recordable, Ending, whole, broken, Reading, ReadsAs, Read, writeRecord}
 use Rattle.promises.specs.Runs.{afterRun, accepted, isMove, issuesTrip, issuesReconcile, sameMove, events, free, alternate, isIssued, isAnswered}
 
@@ -102,6 +103,29 @@ DrainSteps =
 -- The room that it asks for is enough: its bytes are no more than twice the lesser of the budget and 656.
 abbrev pub DrainFits : Type 0
 DrainFits = (s : System) → T (sound s) → (budget : ℕ) → length (stepsBytes (drained budget s .steps)) ≤ 2 * min budget mostDrain
+
+-- the bytes written are read as exactly as many steps as it counted, each accepted and no issue, and taking them in turn leads to the state left
+pub record DrainedSteps (s : System) (d : Drain) : Type 0 where
+  pub steps : List Step
+  pub read : Reading (take (d .result .length) (d .buffer)) 0 steps whole
+  pub counted : length steps ≡ d .result .count
+  pub taken : accepted isMove s steps ≡ d .result .count
+  pub leads : afterRun s steps ≡ d .result .system
+
+-- An invented count fails: the bytes written are that many steps and lead to the state left.
+abbrev pub DrainRead : Type 0
+DrainRead =
+    (s : System) → T (sound s) → (budget : ℕ) (buf : List ℕ) → 2 * min budget mostDrain ≤ length buf → DrainedSteps s (drainOf s budget buf)
+
+-- what a drain leaves alone: the buffer's length; where it is refused, the state and every byte; else the bytes past the length
+pub record DrainKept (s : System) (buf : List ℕ) (d : Drain) : Type 0 where
+  pub length-kept : length (d .buffer) ≡ length buf
+  pub refused-kept : (r : Refusal) → d .result .outcome ≡ Refused r → (d .result .system ≡ s) × (d .buffer ≡ buf)
+  pub others-kept : (i : ℕ) → d .result .length ≤ i → getD (d .buffer) i 0 ≡ getD buf i 0
+
+-- From any state, sound or not, a refused drain alters no byte and no field, and the bytes past the length stay.
+abbrev pub DrainKeeps : Type 0
+DrainKeeps = (s : System) (budget : ℕ) (buf : List ℕ) → DrainKept s buf (drainOf s budget buf)
 
 -- THE CHOICES
 

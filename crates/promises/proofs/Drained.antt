@@ -1,0 +1,65 @@
+-- What a drain wrote is read back as the steps that it took, and all else in the buffer stays.
+use mathlib.Core.Path.{refl}
+use mathlib.Core.List.{List}
+use Prim.Native.Nat.{ℕ, _*_, _≤_, min}
+use native.Mathlib.Omega.{arith}
+use lib.Dec.{leb}
+use lib.ListN.{length}
+use lib.Seq.{length-sets, sets-eq, take-append-seam}
+use borrow.Author.Tests.{le-leb}
+use Rattle.lists.proofs.Tests.{by-cond, T-true}
+use Rattle.model.specs.declared.System.{System}
+use Rattle.model.specs.declared.Step.{Step}
+use Rattle.model.specs.declared.Refusal.{Refusal}
+use Rattle.model.specs.declared.Refusal.the-variants.{NotSound, BufferShort}
+use Rattle.model.specs.Limits.{mostDrain}
+use Rattle.model.specs.Sound.{sound}
+use Rattle.model.specs.Record.{stepsBytes}
+use Rattle.model.specs.Drain.{Taken, drained, notDrained, drainedWith, drainOf}
+use Rattle.promises.specs.Promises.{DrainedSteps, DrainRead, DrainKept, DrainKeeps}
+use Rattle.promises.proofs.Sound.{Sound, opened}
+use Rattle.promises.proofs.Drain.{Leaves, drained-leaves, drained-bytes}
+use Rattle.promises.proofs.ReadBack.{steps-back}
+use Rattle.promises.proofs.Writes.{sets-kept}
+
+-- THE STEPS WRITTEN
+
+steps-read : (s : System) → Sound s → (b : ℕ) (buf : List ℕ) → 2 * min b mostDrain ≤ length buf → DrainedSteps s (drainedWith (drained b s) buf)
+steps-read s h b buf k =
+    let r : Leaves b s (drained b s) = drained-leaves b s h in
+    let xs : List Step = drained b s .steps in
+    let l : length (stepsBytes xs) ≤ 2 * min b mostDrain = drained-bytes b s h in
+    record {
+      steps = xs;
+      read =
+          rw (sets-eq (stepsBytes xs) buf 0 (omega arith), take-append-seam)
+          (steps-back (stepsBytes xs) (omega arith) 0 xs (omega arith) (r .written) refl);
+      counted = refl;
+      taken = r .taken;
+      leads = r .leads;
+    }
+
+pub drained-read : DrainRead
+unfolding drainOf
+drained-read s t b buf k = rw (T-true (sound s) t, le-leb (2 * min b mostDrain) (length buf) k) (steps-read s (opened s t) b buf k)
+
+-- THE REST OF THE BUFFER
+
+refusal-kept : (s : System) (buf : List ℕ) (r : Refusal) → DrainKept s buf (notDrained r s buf)
+refusal-kept s buf r = record { length-kept = refl; refused-kept = λ q e. (refl, refl); others-kept = λ i l. refl }
+
+into-kept : (s : System) (d : Taken) (buf : List ℕ) → DrainKept s buf (drainedWith d buf)
+into-kept s d buf = record {
+  length-kept = length-sets buf 0 (stepsBytes (d .steps));
+  refused-kept = λ r e. (cc, cc);
+  others-kept = λ i l. sets-kept (stepsBytes (d .steps)) buf 0 i (λ k. omega arith);
+}
+
+pub drained-kept : DrainKeeps
+unfolding drainOf
+drained-kept s b buf =
+    by-cond (DrainKept s buf) (sound s) _ _
+    (λ t. by-cond (DrainKept s buf) (leb (2 * min b mostDrain) (length buf)) _ _
+    (λ u. into-kept s (drained b s) buf)
+    (λ u. refusal-kept s buf BufferShort))
+    (λ t. refusal-kept s buf NotSound)
