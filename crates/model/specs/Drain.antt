@@ -98,8 +98,8 @@ pub record Drain : Type 0 where
 abbrev pub drainGives : Drained → List ℕ → Drain
 drainGives r buf = record { result = r; buffer = buf }
 
-abbrev pub notDrained : Refusal → System → List ℕ → Drain
-notDrained r s buf = drainGives (record { outcome = Refused r; count = 0; quiet = false; length = 0; system = s }) buf
+abbrev pub undrained : Refusal → System → Drained
+undrained r s = record { outcome = Refused r; count = 0; quiet = false; length = 0; system = s }
 
 -- It writes the steps' record bytes into the lent buffer from its start, giving their length. Bytes past the length stay.
 abbrev pub drainedInto : Taken → List ℕ → List ℕ → Drain
@@ -114,5 +114,5 @@ drainedWith d buf = drainedInto d (stepsBytes (d .steps)) buf
 unfoldable pub drainOf : System → ℕ → List ℕ → Drain
 drainOf s budget buf =
     cond (sound s)
-    (cond (leb (2 * min budget mostDrain) (length buf)) (drainedWith (drained budget s) buf) (notDrained BufferShort s buf))
-    (notDrained NotSound s buf)
+    (cond (leb (2 * min budget mostDrain) (length buf)) (drainedWith (drained budget s) buf) (drainGives (undrained BufferShort s) buf))
+    (drainGives (undrained NotSound s) buf)

@@ -80,7 +80,7 @@ quiet-next s h = go (nextStep s) (next s h)
 -- ITS BYTES
 
 -- numbers of one byte each
-abbrev small : List ℕ → Bool
+abbrev pub small : List ℕ → Bool
 small vs = each (λ v. ltb v 128) vs
 
 small-bytes : (vs : List ℕ) → T (small vs) → length (bytesOfAll vs) ≡ length vs
@@ -89,16 +89,16 @@ small-bytes [] t = refl
 small-bytes (v ∷ vs) t = rw (bytes-last v (ltb→lt v 128 (and-l (ltb v 128) _ t)), small-bytes vs (and-r (ltb v 128) _ t))
 
 -- at most two such numbers
-record Short (vs : List ℕ) : Type 0 where
-  most : length vs ≤ 2
-  bytes : T (small vs)
+pub record Short (vs : List ℕ) : Type 0 where
+  pub most : length vs ≤ 2
+  pub bytes : T (small vs)
 
 two-numbers : (k v : ℕ) → T (ltb k 128) → v < 128 → Short (k ∷ v ∷ [])
 unfolding each
 two-numbers k v t l = record { most = omega arith; bytes = both (ltb k 128) _ t (both (ltb v 128) true (lt→ltb v 128 l) tt) }
 
 -- as a try has
-try-short : (n : ℕ) → n ≤ 4 → (x : Step) → T (named n 1 1 x) → Short (numbersOf x)
+pub try-short : (n : ℕ) → n ≤ 4 → (x : Step) → T (named n 1 1 x) → Short (numbersOf x)
 unfolding named numbersOf each
 try-short n l (Issue i t m) k = absurd k
 try-short n l (Retry i) k = two-numbers 1 i tt (omega (arith, ltb→lt i n k))
@@ -109,7 +109,7 @@ try-short n l SendBack k = record { most = omega arith; bytes = tt }
 try-short n l (ArriveSite p) k = two-numbers 6 p tt (omega (arith, ltb→lt p 1 k))
 try-short n l (Take i) k = two-numbers 7 i tt (omega (arith, ltb→lt i n k))
 
-two-bytes : (x : Step) → Short (numbersOf x) → length (stepBytes x) ≤ 2
+pub two-bytes : (x : Step) → Short (numbersOf x) → length (stepBytes x) ≤ 2
 two-bytes x r = omega (arith, small-bytes (numbersOf x) (r .bytes), r .most)
 
 short-recordable : (x : Step) → Short (numbersOf x) → T (recordable x)
@@ -178,7 +178,7 @@ drained-leaves b s h = leaves b s (drained b s) h (drains b s h)
 
 -- QUIET, where the budget is no less than the potential, which each step lowers
 
-try-falls : (s : System) → Sound s → (x : Step) → T (tryOf s x) → T (accepts s x) → potential (stepOf s x .system) + 1 ≤ potential s
+pub try-falls : (s : System) → Sound s → (x : Step) → T (tryOf s x) → T (accepts s x) → potential (stepOf s x .system) + 1 ≤ potential s
 try-falls s h x k a = moves-fall s h x (named-move (s .sizes .sites) 1 1 x k) a
 
 lowest-quiet : (s : System) → Sound s → potential s ≤ 0 → T (quiet s)

@@ -15,7 +15,7 @@ use Rattle.model.specs.declared.Refusal.the-variants.{NotSound, BufferShort}
 use Rattle.model.specs.Limits.{mostDrain}
 use Rattle.model.specs.Sound.{sound}
 use Rattle.model.specs.Record.{stepsBytes}
-use Rattle.model.specs.Drain.{Taken, drained, notDrained, drainedWith, drainOf}
+use Rattle.model.specs.Drain.{Taken, drained, drainGives, undrained, drainedWith, drainOf}
 use Rattle.promises.specs.Promises.{DrainedSteps, DrainRead, DrainKept, DrainKeeps}
 use Rattle.promises.proofs.Sound.{Sound, opened}
 use Rattle.promises.proofs.Drain.{Leaves, drained-leaves, drained-bytes}
@@ -45,7 +45,7 @@ drained-read s t b buf k = rw (T-true (sound s) t, le-leb (2 * min b mostDrain) 
 
 -- THE REST OF THE BUFFER
 
-refusal-kept : (s : System) (buf : List ℕ) (r : Refusal) → DrainKept s buf (notDrained r s buf)
+refusal-kept : (s : System) (buf : List ℕ) (r : Refusal) → DrainKept s buf (drainGives (undrained r s) buf)
 refusal-kept s buf r = record { length-kept = refl; refused-kept = λ q e. (refl, refl); others-kept = λ i l. refl }
 
 into-kept : (s : System) (d : Taken) (buf : List ℕ) → DrainKept s buf (drainedWith d buf)

@@ -2,7 +2,7 @@
 use mathlib.Core.Path.{_≡_, refl}
 use mathlib.Core.List.{[]}
 use mathlib.Core.Bool.{Bool, true, false, not}
-use Prim.Native.Nat.{ℕ, _≤_, _<_}
+use Prim.Native.Nat.{ℕ, _+_, _≤_, _<_}
 use native.Mathlib.Omega.{arith}
 use lib.Dec.{T, ltb, eqb, ltb→lt, lt→ltb, nltb→le}
 use Rattle.lists.specs.Places.{each}
@@ -149,25 +149,28 @@ module _ (s : System) (h : Sound s) where
   free-queued : (i : ℕ) → i < 4 → n ≤ i → queued (siteAt s i) ≡ 0
   free-queued i l k = let v = vacant s h i l k in omega (arith, v .outgoing, v .incoming)
 
+  -- no message in any queue
+  pub none-standing : ((i : ℕ) → i < n → queued (siteAt s i) ≡ 0) → s .up .count + s .arrived .count + s .served .count + s .down .count ≡ 0 →
+      messageCount s ≡ 0
+  unfolding messageCount
+  none-standing f e =
+      omega (arith, sum-within 4 n 0 (λ i. queued (siteAt s i)) (λ i l. let q : queued (siteAt s i) ≡ 0 = f i l in omega (arith, q)) free-queued)
+
+  pub none-pending : messageCount s ≡ 0 → (i : ℕ) → i < n → siteAt s i .pends ≡ 0
+  none-pending e i l = omega (arith, count-is s h, sum-at n (λ j. siteAt s j .pends) i l)
+
   module _ (t : T (each (denies s) (tries n))) where
     tried-empty : (x : Step) → T (named n 1 1 x) → Sure s x → stock s x ≡ 0
     tried-empty x k u = refused-empty s h x k u (mem-each (denies s) (tried n x k) t)
 
     pub tries-count : messageCount s ≡ 0
-    unfolding messageCount named Sure stock
+    unfolding named Sure stock
     tries-count =
-        omega (
-          arith,
-          sum-within 4 n 0 (λ i. queued (siteAt s i))
-              (λ i l. omega (arith, tried-empty (Send i) (lt→ltb i n l) tt, tried-empty (Take i) (lt→ltb i n l) tt)) free-queued,
-          tried-empty (ArriveMemory 0) tt tt,
-          tried-empty Serve tt tt,
-          tried-empty SendBack tt tt,
-          tried-empty (ArriveSite 0) tt tt,
-        )
+        none-standing (λ i l. omega (arith, tried-empty (Send i) (lt→ltb i n l) tt, tried-empty (Take i) (lt→ltb i n l) tt))
+        (omega (arith, tried-empty (ArriveMemory 0) tt tt, tried-empty Serve tt tt, tried-empty SendBack tt tt, tried-empty (ArriveSite 0) tt tt))
 
     tries-pends : (i : ℕ) → i < n → siteAt s i .pends ≡ 0
-    tries-pends i l = omega (arith, count-is s h, tries-count, sum-at n (λ j. siteAt s j .pends) i l)
+    tries-pends = none-pending tries-count
 
     pub tries-idle : Idle s
     unfolding named Sure stock

@@ -74,7 +74,7 @@ sizes-faulty bs r e = rw e at (sizes-say bs)
 -- THE NUMBERS BEHIND A KIND
 
 -- a kind of step or of instruction, one by one
-each-kind : (P : ℕ → Type 0) → P 0 → P 1 → P 2 → P 3 → P 4 → P 5 → P 6 → P 7 → (k : ℕ) → T (leb k 7) → P k
+pub each-kind : (P : ℕ → Type 0) → P 0 → P 1 → P 2 → P 3 → P 4 → P 5 → P 6 → P 7 → (k : ℕ) → T (leb k 7) → P k
 each-kind P p0 p1 p2 p3 p4 p5 p6 p7 zero t = p0
 each-kind P p0 p1 p2 p3 p4 p5 p6 p7 (suc zero) t = p1
 each-kind P p0 p1 p2 p3 p4 p5 p6 p7 (suc (suc zero)) t = p2

@@ -49,7 +49,7 @@ all-bytes z xs = each-append _ (sizesBytes z) (stepsBytes xs) (numbers-bytes (si
 
 -- ONE BEHIND THE OTHER
 
-written-at : (new buf : List ℕ) (at : ℕ) → at + length new ≤ mostBytes → at + length new ≤ length buf →
+pub written-at : (new buf : List ℕ) (at : ℕ) → at + length new ≤ mostBytes → at + length new ≤ length buf →
     writtenAt new buf at ≡ written (Past (at + length new)) (sets buf at new)
 unfolding writtenTo
 written-at new buf at m l = rw (le-leb (at + length new) mostBytes m, le-leb (at + length new) (length buf) l)
