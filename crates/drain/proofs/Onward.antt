@@ -13,6 +13,7 @@ use Rattle.lists.proofs.Tests.{T-true}
 use Rattle.lists.proofs.Stores.{sets-append}
 use Rattle.numbers.specs.Groups.{Put, putTo}
 use Rattle.model.specs.Drain.{tries, accepts, quiet, Choice, chosen, nextStep, further, drained, drainGives, drainOf}
+use Rattle.model.specs.declared.Sizes.{Sizes}
 use Rattle.model.specs.declared.System.{System}
 use Rattle.model.specs.declared.After.{After}
 use Rattle.model.specs.declared.Step.{Step}
@@ -28,6 +29,7 @@ use Rattle.model.specs.Steps.{stepOf}
 use Rattle.model.specs.Record.{stepBytes, stepsBytes, Written, written, writeStep}
 use Rattle.promises.proofs.Sound.{closed, Sound}
 use Rattle.promises.proofs.Room.{the-limits}
+use Rattle.promises.proofs.Public.{step-sizes}
 use Rattle.promises.proofs.Kept.{kept}
 use Rattle.promises.proofs.Potential.{potential, potential-most}
 use Rattle.promises.proofs.Writes.{written-at}
@@ -82,6 +84,7 @@ pub record Onward (s : System) (budget : ℕ) (empty : List ℕ) (t : System) (c
   pub steps : List Step
   pub so-far : drained budget s ≡ record { steps = steps ++ drained (budget - count) t .steps; state = drained (budget - count) t .state }
   pub keeps : Sound t
+  pub sizes : t .sizes ≡ s .sizes
   pub within : count ≤ budget
   pub counted : length steps ≡ count
   -- Each step lowers the potential, so that there are no more than 656; and it takes no more than two bytes.
@@ -98,6 +101,7 @@ start s budget buf h k = record {
   steps = [];
   so-far = let e : budget - 0 ≡ budget = omega arith in rw e;
   keeps = sound-open s h;
+  sizes = refl;
   within = omega arith;
   counted = refl;
   falls = omega arith;
@@ -120,9 +124,10 @@ module _ {s : System} {budget : ℕ} {empty : List ℕ} {t : System} {count at :
   unfolding drainOf
   ended e p = rw (r .begun, le-leb (2 * min budget mostDrain) (length empty) (r .room), e, r .counted, r .length-at, r .bytes, p)
 
-  module _ {k : Stock} {found : Found} (d : k ≡ stockOf t) (f : found ≡ firstBy (standing k) (tries (t .sizes .sites))) where
+  module _ {k : Stock} {found : Found} (d : k ≡ stockOf t) (f : found ≡ firstBy (standing k) (tries (s .sizes .sites))) where
     next-is : (c : Found) → found ≡ c → nextStep t ≡ choiceOf t c
-    next-is c g = found-next t (r .keeps) d f ∙ ap (choiceOf t) g
+    next-is c g =
+        found-next t (r .keeps) d (f ∙ ap (λ (z : Sizes). firstBy (standing k) (tries (z .sites))) (sym (r .sizes))) ∙ ap (choiceOf t) g
 
     -- nothing can be taken
     pub rested : found ≡ None →
@@ -185,6 +190,7 @@ module _ {s : System} {budget : ℕ} {empty : List ℕ} {t : System} {count at :
             steps = r .steps ++ (x ∷ []);
             so-far = r .so-far ∙ rw (rest, turned (budget - (count + 1)), append-assoc (r .steps) (x ∷ []));
             keeps = kept t (r .keeps) x;
+            sizes = step-sizes t (r .keeps) x ∙ r .sizes;
             within = omega arith;
             counted = omega (arith, length-append (r .steps) (x ∷ []), r .counted);
             falls = omega (arith, lower, r .falls);

@@ -1,11 +1,11 @@
 -- The search, one try at a time: what was passed over leaves the first of the rest.
 use mathlib.Core.Path.{_≡_, refl, ap, _∙_}
 use mathlib.Core.List.{List, [], _∷_, _++_, map}
-use mathlib.Core.Bool.{Bool, true, false, not, _||_}
+use mathlib.Core.Bool.{Bool, true, false, not, _&&_}
 use Prim.Native.Nat.{ℕ, zero, suc, _+_, _≤_, _<_}
 use native.Mathlib.Numerals.{add-one}
 use native.Mathlib.Omega.{arith}
-use lib.Dec.{T, ltb, leb, eqb, ltb→lt, nltb→le, le→leb}
+use lib.Dec.{T, ltb, leb, ltb→lt, nltb→le, le→leb}
 use Rattle.lists.specs.Places.{allBelow, upFrom, each, allOf}
 use Rattle.lists.proofs.Tests.{and-l, and-r, both, by-test, by-cond, cond-T, cond-F}
 use Rattle.lists.proofs.Below.{below-at, below-turn}
@@ -125,4 +125,4 @@ module _ (f : Step → Bool) (n : ℕ) where
 
 -- a kind is tried at four sites at most
 pub width-most : (n k : ℕ) → n ≤ 4 → widthOf n k ≤ 4
-width-most n k m = by-cond (λ (w : ℕ). w ≤ 4) (eqb k 1 || eqb k 2 || eqb k 7) n 1 (λ t. m) (λ t. omega arith)
+width-most n k m = by-cond (λ (w : ℕ). w ≤ 4) (leb 3 k && leb k 6) 1 n (λ t. omega arith) (λ t. m)

@@ -1,8 +1,8 @@
 -- The first step of a list that passes a test, and how many of the drain's tries are of one kind.
 use mathlib.Core.List.{List, [], _∷_}
-use mathlib.Core.Bool.{Bool, _||_, cond}
+use mathlib.Core.Bool.{Bool, _&&_, cond}
 use Prim.Native.Nat.{ℕ}
-use lib.Dec.{eqb}
+use lib.Dec.{leb}
 use Rattle.model.specs.declared.Step.{Step}
 use Rattle.drain.specs.declared.search.Found.{Found}
 use Rattle.drain.specs.declared.search.Found.the-variants.{First, None}
@@ -11,6 +11,6 @@ unfoldable pub firstBy : (Step → Bool) → List Step → Found
 firstBy f [] = None
 firstBy f (x ∷ xs) = cond (f x) (First x) (firstBy f xs)
 
--- one at each site for retry, send and take, else one
+-- one at each site; kinds 3 to 6 have no site
 abbrev pub widthOf : ℕ → ℕ → ℕ
-widthOf sites k = cond (eqb k 1 || eqb k 2 || eqb k 7) sites 1
+widthOf sites k = cond (leb 3 k && leb k 6) 1 sites

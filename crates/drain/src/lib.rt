@@ -59,7 +59,8 @@ fn put_step(buf: &mut [u8], at: usize, x: Step) -> usize
     past
 }
 
-// Takes steps until none is accepted or the budget is reached, and writes them down.
+// Takes steps until none is accepted or the budget is reached, and writes them down. Soundness is looked at once: each step leaves a sound state. That
+// the bytes asked for are enough, whatever the budget, is the theorem of 656 steps; it stands in the loop's invariant (Onward, in proofs/Onward.antt).
 pub fn drain(s: System, budget: usize, buf: &mut [u8]) -> Drained
     ensures { λ r. ⌜ drainGives r (now (buf .exit)) ≡ drainOf s budget (now (buf .entry)) ⌝ }
 {
@@ -74,9 +75,8 @@ pub fn drain(s: System, budget: usize, buf: &mut [u8]) -> Drained
     let mut length: usize = 0;
     let mut quiet = false;
     'steps: loop {
-        let sites = t.sizes.sites as usize;
         let k = stock_of(t);
-        let found = first_step(sites, k);
+        let found = first_step(s.sizes.sites as usize, k);
         let Found::First(x) = found else {
             quiet = true;
             break 'steps;

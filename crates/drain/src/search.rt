@@ -25,14 +25,14 @@ fn kind_at(turn: usize) -> u32
     TRIED[turn]
 }
 
-// How many steps of the kind are tried: one at each site for retry, send and take, else one.
+// How many steps of the kind are tried: one at each site, but kinds 3 to 6 have no site.
 fn width(kind: u32, sites: usize) -> usize
     ensures { λ r. ⌜ r ≡ widthOf sites kind ⌝ }
 {
-    if (kind == 1) | (kind == 2) | (kind == 7) {
-        return sites;
+    if (3 <= kind) & (kind <= 6) {
+        return 1;
     }
-    1
+    sites
 }
 
 // The first of the drain's tries where something stands. In a sound state that is the first that would be accepted: a retry alone may be refused where

@@ -38,9 +38,12 @@ same-sizes s x r (returning l) = refl
 same-sizes s x r (reaching p l) = refl
 same-sizes s x r (tooking i l k) = refl
 
+pub step-sizes : (s : System) → Sound s → (x : Step) → stepOf s x .system .sizes ≡ s .sizes
+step-sizes s h x = same-sizes s x (stepOf s x) (stepping s h x)
+
 pub run-sizes : (s : System) → Sound s → (xs : List Step) → afterRun s xs .sizes ≡ s .sizes
 unfolding afterRun
 run-sizes s h [] = refl
 run-sizes s h (x ∷ xs) =
     ap (λ (r : After). afterRun (r .system) xs .sizes) (stepped-sound s h x) ∙ run-sizes (stepOf s x .system) (kept s h x) xs ∙
-    same-sizes s x (stepOf s x) (stepping s h x)
+    step-sizes s h x

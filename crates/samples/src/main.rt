@@ -1,11 +1,13 @@
-// Document 01's samples that no statement proves: the listing of its section Replay, sizes alone, and an empty record.
+// Document 01's samples that no statement proves: the listing of its section Replay, the same steps found by the drain, sizes alone, and an empty record.
 ghost use mathlib.Core.Path.{_≡_};
 ghost use mathlib.Core.Bool.{true};
 ghost use Prim.Native.Nat.{_≤_};
 ghost use Rattle.model.specs.Given.{numberOf};
 ghost use Rattle.model.specs.Limits.{inLimits};
 ghost use Rattle.model.specs.Sound.{sound};
+use drain::drain;
 use io::print_decimal;
+use io::print_hex;
 use io::write_all;
 use model::Answer;
 use model::Instruction;
@@ -197,6 +199,31 @@ fn put_left(s: System) {
     write_all(1, b"\n");
 }
 
+fn put_byte(b: u8) {
+    write_all(1, b" ");
+    print_hex(1, b as u64, 2);
+}
+
+// What a drain takes: how many steps, whether the system is quiet then, and the steps' bytes.
+fn put_drained(s: System) {
+    let mut buf = [0u8; 1312];
+    let d = drain(s, 656, &mut buf);
+    put(b"drain ", d.count as u64);
+    if d.quiet {
+        write_all(1, b" quiet");
+    }
+    let length = d.length;
+    if 1312 < length {
+        return;
+    }
+    let mut i: usize = 0;
+    while i < length {
+        put_byte(buf[i]);
+        i += 1;
+    }
+    write_all(1, b"\n");
+}
+
 // No state is looked at for soundness: a fresh system is sound, and so is what a step of a sound one leaves.
 fn main() {
     let z = Sizes {
@@ -215,6 +242,7 @@ fn main() {
     };
     let mut s = begun(z);
     s = shown(s, 1, issue);
+    let issued = s;
     s = shown(s, 2, Step::Send(0));
     s = shown(s, 3, Step::ArriveMemory(0));
     s = shown(s, 4, Step::Serve);
@@ -222,6 +250,8 @@ fn main() {
     s = shown(s, 6, Step::ArriveSite(0));
     s = shown(s, 7, Step::Take(0));
     put_left(s);
+    // The steps behind the issue are those that the drain takes.
+    put_drained(issued);
     // Sizes alone.
     let alone = begun(z);
     put_left(alone);

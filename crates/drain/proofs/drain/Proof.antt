@@ -8,15 +8,16 @@ use borrow.Author.Needs.{needs}
 use Rattle.model.specs.Limits.{mostDrain}
 use Rattle.model.specs.Drain.{drainOf}
 use Rattle.promises.proofs.Room.{the-limits}
-use Rattle.drain.proofs.Onward.{still-sound, length-kept, Onward, start, has-place, further-on, rested, spent}
+use Rattle.steps.proofs.Visits.{sound-open}
+use Rattle.drain.proofs.Onward.{Onward, start, length-kept, still-sound, rested, spent, has-place, further-on}
 use Rattle.drain.proofs.drain.Statement.{statement}
 use Rattle.drain.proofs.drain.Tie as tie
 
 abbrev Inv-steps : tie.InvT-steps
-Inv-steps budget buf₀ t₀ count₀ length₀ quiet₀ buf t count length quiet = Onward t₀ budget buf₀ t count length buf × (quiet ≡ false)
+Inv-steps s budget buf₀ t₀ count₀ length₀ quiet₀ buf t count length quiet = Onward s budget buf₀ t count length buf × (quiet ≡ false)
 
 abbrev μ-steps : tie.MeasureT-steps
-μ-steps budget buf₀ t₀ count₀ length₀ quiet₀ buf t count length quiet = budget - count
+μ-steps s budget buf₀ t₀ count₀ length₀ quiet₀ buf t count length quiet = budget - count
 
 is-sound-requires : tie.Need-is-sound-requires Inv-steps μ-steps
 is-sound-requires c κs = search needs
@@ -53,14 +54,16 @@ steps-holds c =
     let sound-s = sym (is-sound .ensures) ∙ not-false _ (c .before .before .if1 .left) in
     (start (args .s) (args .budget) (args .buf .now) sound-s (omega (arith, c .before .room-for .ensures, c .if2)), refl)
 
-cast-sites : tie.Need-cast-sites Inv-steps μ-steps
-cast-sites c = search needs
-
 stock-of-requires : tie.Need-stock-of-requires Inv-steps μ-steps
 stock-of-requires c κs = search needs
 
+cast-first-step : tie.Need-cast-first-step Inv-steps μ-steps
+cast-first-step c = search needs
+
 first-step-requires : tie.Need-first-step-requires Inv-steps μ-steps
-first-step-requires c κs = the-limits (c .before .before .steps .t) (c .before .before .steps .inv .0 .keeps) .sites-most
+first-step-requires c κs =
+    let args = c .before .before .before .before .before .before .before .before .args in
+    the-limits (args .s) (sound-open (args .s) (c .before .before .steps .inv .0 .begun)) .sites-most
 
 enum-known-found : tie.Need-enum-known-found Inv-steps μ-steps
 enum-known-found c = search needs
@@ -72,7 +75,7 @@ put-step-requires : tie.Need-put-step-requires Inv-steps μ-steps
 put-step-requires c κs =
     let found = c .before .before .before .found in
     let first-step = c .before .before .before .before .before .first-step in
-    let stock-of = c .before .before .before .before .before .before .stock-of in
+    let stock-of = c .before .before .before .before .before .before .before .stock-of in
     let steps = c .before .before .before .before .before .before .before .before .steps in
     has-place (steps .inv .0) (stock-of .ensures) (first-step .ensures) (found .given .1) (c .before .if3 .left)
 
@@ -84,9 +87,8 @@ step-sound-requires c κs =
 add-count : tie.Need-add-count Inv-steps μ-steps
 add-count c =
     let if3 = c .before .before .before .before .before .before .if3 in
-    let steps = c .before .before .before .before .before .before .before .before .before .before .before .before .before .steps in
-    let fits = c .before .before .before .before .before .before .before .before .before .before .before .before .before .before .before .before .before .before .before .fits in
-    omega (arith, steps .inv .0 .within, if3, fits)
+    let turn = c .before .before .before .before .before .before .before .before .before .before .before .before .before in
+    omega (arith, turn .steps .inv .0 .within, if3, turn .before .before .before .before .before .before .fits)
 
 steps-less : tie.Need-steps-less Inv-steps μ-steps
 steps-less c =
@@ -100,7 +102,7 @@ steps-again c =
     let if3 = c .before .before .before .before .before .before .if3 in
     let found = c .before .before .before .before .before .before .before .before .found in
     let first-step = c .before .before .before .before .before .before .before .before .before .before .first-step in
-    let stock-of = c .before .before .before .before .before .before .before .before .before .before .before .stock-of in
+    let stock-of = c .before .before .before .before .before .before .before .before .before .before .before .before .stock-of in
     let steps = c .before .before .before .before .before .before .before .before .before .before .before .before .before .steps in
     let went = c .before .step-sound .ensures in
     (further-on (steps .inv .0) (stock-of .ensures) (first-step .ensures) (found .given .1) (if3 .left) (put-step .ensures) went, steps .inv .1)
@@ -110,7 +112,7 @@ same-length c = length-kept (c .before .before .before .before .before .steps .i
 
 returns-3 : tie.Need-returns-3 Inv-steps μ-steps
 returns-3 c =
-    let stock-of = c .before .before .before .stock-of in
+    let stock-of = c .before .before .before .before .stock-of in
     let steps = c .before .before .before .before .before .steps in
     rested (steps .inv .0) (stock-of .ensures) (c .before .before .first-step .ensures) (c .enum-told .given .1)
 
@@ -120,7 +122,7 @@ same-length-2 c = length-kept (c .before .before .before .before .before .before
 returns-4 : tie.Need-returns-4 Inv-steps μ-steps
 returns-4 c =
     let first-step = c .before .before .before .before .first-step in
-    let stock-of = c .before .before .before .before .before .stock-of in
+    let stock-of = c .before .before .before .before .before .before .stock-of in
     let steps = c .before .before .before .before .before .before .before .steps in
     rw (steps .inv .1) (spent (steps .inv .0) (stock-of .ensures) (first-step .ensures) (c .before .before .found .given .1) (c .if3 .taken))
 
@@ -137,8 +139,8 @@ drain-spec =
     refuse-requires-2
     returns-2
     steps-holds
-    cast-sites
     stock-of-requires
+    cast-first-step
     first-step-requires
     enum-known-found
     enum-told

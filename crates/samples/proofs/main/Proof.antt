@@ -32,6 +32,9 @@ shown-requires-7 c κs = search needs
 put-left-requires : tie.Need-put-left-requires
 put-left-requires c κs = search needs
 
+put-drained-requires : tie.Need-put-drained-requires
+put-drained-requires c κs = search needs
+
 begun-requires-2 : tie.Need-begun-requires-2
 unfolding inLimits
 begun-requires-2 c κs = refl
@@ -64,6 +67,7 @@ main-spec =
     shown-requires-6
     shown-requires-7
     put-left-requires
+    put-drained-requires
     begun-requires-2
     put-left-requires-2
     slice-aggregate-read-sizes
