@@ -17,7 +17,7 @@ use Rattle.model.specs.Parts.{siteAt}
 use Rattle.model.specs.Sound.{request, reply, ofSite, messageFits, siteQueueFits, sound}
 use Rattle.model.specs.Steps.{stepOf, stepped, isDone}
 use Rattle.model.specs.Drain.{accepts, candidatesOf, quiet, drained, drainOf}
-use Rattle.promises.specs.Promises.{refuses, run, FreshSound, StepSound, RunSound, RefusedStays, RunBound, QuietMeans, QuietEmpty, Alternating, AllAnswered, MovesMost, DrainQuiet, DrainSteps, DrainFits, DrainRead, DrainKeeps, ChoicesMost, Roomy, RunRoomy, RecordBytes, RecordRead, RecordOnly, ReadOnce, ReadOn, ReadAnswered, SizesFault, ReadFault, RecordWritten, WriteKeeps}
+use Rattle.promises.specs.Promises.{refuses, run, FreshSound, StepSound, RunSound, RefusedStays, RunBound, QuietMeans, QuietEmpty, Alternating, AllAnswered, MovesMost, DrainQuiet, DrainFits, DrainRead, DrainKeeps, ChoicesMost, Roomy, RunRoomy, RecordBytes, RecordRead, RecordOnly, ReadOnce, ReadOn, ReadAnswered, SizesFault, ReadFault, RecordWritten, WriteKeeps}
 use Rattle.promises.proofs.Queues.{queue-most}
 use Rattle.promises.proofs.Sound.{Sound, opened, closed}
 use Rattle.promises.proofs.Room.{the-limits, ready, net-places}
@@ -26,7 +26,7 @@ use Rattle.promises.proofs.Public.{stepped-sound, run-kept, run-sizes}
 use Rattle.promises.proofs.Kept.{kept, fresh-sound}
 use Rattle.promises.proofs.Bound.{run-bound, most-moves}
 use Rattle.promises.proofs.Quiet.{quiet-all, all-quiet, quiet-none}
-use Rattle.promises.proofs.Drain.{drained-always, drained-leaves, drained-bytes}
+use Rattle.promises.proofs.Drain.{drained-always, drained-bytes}
 use Rattle.promises.proofs.Alternate.{alternates, all-answered}
 use Rattle.promises.proofs.Choices.{choices, accepted-candidate, candidates-once}
 use Rattle.promises.proofs.Readers.{sizes-faulty}
@@ -101,9 +101,6 @@ all-are-answered = all-answered
 
 pub moves-most : MovesMost
 moves-most s t xs m = most-moves s (opened s t) xs m
-
-pub drain-steps : DrainSteps
-drain-steps s t b = (drained-leaves b s (opened s t) .taken, drained-leaves b s (opened s t) .leads)
 
 pub drain-quiet : DrainQuiet
 unfolding drainOf

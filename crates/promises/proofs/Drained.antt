@@ -16,7 +16,7 @@ use Rattle.model.specs.Limits.{mostDrain}
 use Rattle.model.specs.Sound.{sound}
 use Rattle.model.specs.Record.{stepsBytes}
 use Rattle.model.specs.Drain.{Taken, drained, drainGives, undrained, drainedWith, drainOf}
-use Rattle.promises.specs.Promises.{DrainedSteps, DrainRead, DrainKept, DrainKeeps}
+use Rattle.promises.specs.Promises.{DrainedBy, DrainRead, DrainKept, DrainKeeps}
 use Rattle.promises.proofs.Sound.{Sound, opened}
 use Rattle.promises.proofs.Drain.{Leaves, drained-leaves, drained-bytes}
 use Rattle.promises.proofs.ReadBack.{steps-back}
@@ -24,13 +24,13 @@ use Rattle.promises.proofs.Writes.{sets-kept}
 
 -- THE STEPS WRITTEN
 
-steps-read : (s : System) → Sound s → (b : ℕ) (buf : List ℕ) → 2 * min b mostDrain ≤ length buf → DrainedSteps s (drainedWith (drained b s) buf)
+steps-read : (s : System) → Sound s → (b : ℕ) (buf : List ℕ) → 2 * min b mostDrain ≤ length buf →
+    DrainedBy s (drained b s .steps) (drainedWith (drained b s) buf)
 steps-read s h b buf k =
     let r : Leaves b s (drained b s) = drained-leaves b s h in
     let xs : List Step = drained b s .steps in
     let l : length (stepsBytes xs) ≤ 2 * min b mostDrain = drained-bytes b s h in
     record {
-      steps = xs;
       read =
           rw (sets-eq (stepsBytes xs) buf 0 (omega arith), take-append-seam)
           (steps-back (stepsBytes xs) (omega arith) 0 xs (omega arith) (r .written) refl);

@@ -94,28 +94,23 @@ abbrev pub DrainQuiet : Type 0
 DrainQuiet =
     (s : System) → T (sound s) → (budget : ℕ) → mostDrain ≤ budget → (buf : List ℕ) → 2 * mostDrain ≤ length buf → drainOf s budget buf .result .quiet ≡ true
 
--- The steps that a drain counts are accepted steps other than issues, and taking them one after the other leads to the state left.
-abbrev pub DrainSteps : Type 0
-DrainSteps =
-    (s : System) → T (sound s) → (budget : ℕ) →
-    (accepted isMove s (drained budget s .steps) ≡ length (drained budget s .steps)) × (afterRun s (drained budget s .steps) ≡ drained budget s .state)
-
 -- The room that it asks for is enough: its bytes are no more than twice the lesser of the budget and 656.
 abbrev pub DrainFits : Type 0
 DrainFits = (s : System) → T (sound s) → (budget : ℕ) → length (stepsBytes (drained budget s .steps)) ≤ 2 * min budget mostDrain
 
--- the bytes written are read as exactly as many steps as it counted, each accepted and no issue, and taking them in turn leads to the state left
-pub record DrainedSteps (s : System) (d : Drain) : Type 0 where
-  pub steps : List Step
-  pub read : Reading (take (d .result .length) (d .buffer)) 0 steps whole
-  pub counted : length steps ≡ d .result .count
-  pub taken : accepted isMove s steps ≡ d .result .count
-  pub leads : afterRun s steps ≡ d .result .system
+-- the bytes that a drain wrote, to its length, are read as these steps; as many were counted, each of them is accepted and no issue, and taking
+-- them one after the other leads to the state left
+pub record DrainedBy (s : System) (xs : List Step) (d : Drain) : Type 0 where
+  pub read : Reading (take (d .result .length) (d .buffer)) 0 xs whole
+  pub counted : length xs ≡ d .result .count
+  pub taken : accepted isMove s xs ≡ d .result .count
+  pub leads : afterRun s xs ≡ d .result .system
 
--- An invented count fails: the bytes written are that many steps and lead to the state left.
+-- Each counted step is one step of its definition: the bytes written are that many steps and lead to the state left.
 abbrev pub DrainRead : Type 0
 DrainRead =
-    (s : System) → T (sound s) → (budget : ℕ) (buf : List ℕ) → 2 * min budget mostDrain ≤ length buf → DrainedSteps s (drainOf s budget buf)
+    (s : System) → T (sound s) → (budget : ℕ) (buf : List ℕ) → 2 * min budget mostDrain ≤ length buf →
+    DrainedBy s (drained budget s .steps) (drainOf s budget buf)
 
 -- what a drain leaves alone: the buffer's length; where it is refused, the state and every byte; else the bytes past the length
 pub record DrainKept (s : System) (buf : List ℕ) (d : Drain) : Type 0 where
