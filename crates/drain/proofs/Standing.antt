@@ -1,15 +1,15 @@
 -- The first try where something stands is the first that is accepted. A retry alone may be refused there; but it is tried last, when no message is
 -- under way, so that nothing pends and its instruction need not wait.
 use mathlib.Core.Path.{_≡_, refl, ap, sym, _∙_}
-use mathlib.Core.List.{List, [], _∷_, _++_, map, List·Memᴰ, List·Memᴰ·head}
+use mathlib.Core.List.{List, [], _∷_, _++_, List·Memᴰ, List·Memᴰ·head}
 use mathlib.Core.Bool.{Bool, true, not, _&&_}
 use Prim.Native.Nat.{ℕ, zero, suc, _≤_, _<_}
 use native.Mathlib.Omega.{arith}
 use lib.Dec.{T, ltb, leb, ltb→lt, lt→ltb, nltb→le, le→leb}
 use lib.ListN.{getD}
-use Rattle.lists.specs.Places.{upFrom, each, allOf}
+use Rattle.lists.specs.Places.{each, allOf}
 use Rattle.lists.proofs.Tests.{and-l, and-r, both, by-test, cond-T, cond-F, same-test}
-use Rattle.lists.proofs.Counts.{each-allOf, each-up, mem-each, mem-allOf, mem-up}
+use Rattle.lists.proofs.Counts.{each-allOf, each-up, mem-each, mem-up}
 use Rattle.model.specs.declared.System.{System}
 use Rattle.model.specs.declared.Step.{Step}
 use Rattle.model.specs.declared.Step.the-variants.{Issue, Retry, Send, ArriveMemory, Serve, SendBack, ArriveSite, Take}
@@ -20,7 +20,7 @@ use Rattle.model.specs.Drain.{accepts, kindAt, stepsOfKind, tries, Choice, chos
 use Rattle.promises.proofs.Sound.{Sound}
 use Rattle.promises.proofs.Readers.{each-kind}
 use Rattle.promises.proofs.Room.{the-limits}
-use Rattle.promises.proofs.Named.{named, named-move}
+use Rattle.promises.proofs.Named.{named, named-move, tried-kind}
 use Rattle.promises.proofs.Choices.{stock, accepted-stock}
 use Rattle.promises.proofs.Quiet.{Sure, granted, none-standing, none-pending}
 use Rattle.drain.specs.declared.stock.Stock.{Stock}
@@ -134,12 +134,6 @@ module _ (s : System) (h : Sound s) where
     passed-empty : (x : Step) → T (named n 1 1 x) → List·Memᴰ x others → stock s x ≡ 0
     passed-empty x k m = omega (arith, held-stock x k, nltb→le 0 (held (stockOf s) x) (mem-each (fails stands) m t))
 
-    sited : (j : ℕ) → j < 6 → (g : ℕ → Step) → kind j ≡ map g (upFrom 0 n) → (i : ℕ) → i < n → List·Memᴰ (g i) others
-    sited j l g e i k = mem-allOf 6 kind j l (rw e (mem-up g n i k))
-
-    single : (j : ℕ) → j < 6 → (x : Step) → kind j ≡ x ∷ [] → List·Memᴰ x others
-    single j l x e = mem-allOf 6 kind j l (rw e (List·Memᴰ·head refl))
-
     nothing-pends : (i : ℕ) → i < n → siteAt s i .pends ≡ 0
     unfolding named stock stepsOfKind
     nothing-pends =
@@ -147,15 +141,15 @@ module _ (s : System) (h : Sound s) where
         (none-standing s h
         (λ i l. omega (
           arith,
-          passed-empty (Take i) (lt→ltb i n l) (sited 0 (omega arith) Take refl i l),
-          passed-empty (Send i) (lt→ltb i n l) (sited 5 (omega arith) Send refl i l),
+          passed-empty (Take i) (lt→ltb i n l) (tried-kind n 6 7 (omega arith) (omega arith) (mem-up Take n i l)),
+          passed-empty (Send i) (lt→ltb i n l) (tried-kind n 6 2 (omega arith) (omega arith) (mem-up Send n i l)),
         ))
         (omega (
           arith,
-          passed-empty (ArriveSite 0) tt (single 1 (omega arith) (ArriveSite 0) refl),
-          passed-empty SendBack tt (single 2 (omega arith) SendBack refl),
-          passed-empty Serve tt (single 3 (omega arith) Serve refl),
-          passed-empty (ArriveMemory 0) tt (single 4 (omega arith) (ArriveMemory 0) refl),
+          passed-empty (ArriveSite 0) tt (tried-kind n 6 6 (omega arith) (omega arith) (List·Memᴰ·head refl)),
+          passed-empty SendBack tt (tried-kind n 6 5 (omega arith) (omega arith) (List·Memᴰ·head refl)),
+          passed-empty Serve tt (tried-kind n 6 4 (omega arith) (omega arith) (List·Memᴰ·head refl)),
+          passed-empty (ArriveMemory 0) tt (tried-kind n 6 3 (omega arith) (omega arith) (List·Memᴰ·head refl)),
         )))
 
     retries-alike : firstBy stands (kind 6) ≡ firstBy (accepts s) (kind 6)

@@ -1,6 +1,6 @@
 -- The search, one try at a time: what was passed over leaves the first of the rest.
-use mathlib.Core.Path.{_≡_, refl, ap, _∙_}
-use mathlib.Core.List.{List, [], _∷_, _++_, map}
+use mathlib.Core.Path.{_≡_, refl, ap, sym, _∙_}
+use mathlib.Core.List.{List, [], _∷_, _++_, map, append-nil}
 use mathlib.Core.Bool.{Bool, true, false, not, _&&_}
 use Prim.Native.Nat.{ℕ, zero, suc, _+_, _≤_, _<_}
 use native.Mathlib.Numerals.{add-one}
@@ -34,10 +34,9 @@ module _ (f : Step → Bool) where
   first-skip [] ys t = refl
   first-skip (x ∷ xs) ys t = cond-F (f x) _ _ (and-l (fails x) _ t) ∙ first-skip xs ys (and-r (fails x) _ t)
 
-  pub first-none : (xs : List Step) → T (each fails xs) → firstBy f xs ≡ None
-  unfolding each firstBy
-  first-none [] t = refl
-  first-none (x ∷ xs) t = cond-F (f x) _ _ (and-l (fails x) _ t) ∙ first-none xs (and-r (fails x) _ t)
+  first-none : (xs : List Step) → T (each fails xs) → firstBy f xs ≡ None
+  unfolding firstBy
+  first-none xs t = ap (firstBy f) (sym (append-nil xs)) ∙ first-skip xs [] t
 
   pub none-each : (xs : List Step) → T (isNone (firstBy f xs)) → T (each fails xs)
   unfolding each firstBy

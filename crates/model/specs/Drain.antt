@@ -98,6 +98,7 @@ pub record Drain : Type 0 where
 abbrev pub drainGives : Drained → List ℕ → Drain
 drainGives r buf = record { result = r; buffer = buf }
 
+-- A refusal has no processor answer, its other numbers are 0, and no byte or field is altered.
 abbrev pub undrained : Refusal → System → Drained
 undrained r s = record { outcome = Refused r; count = 0; quiet = false; length = 0; system = s }
 

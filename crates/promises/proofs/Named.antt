@@ -2,10 +2,10 @@
 use mathlib.Core.Path.{_≡_, refl, subst}
 use mathlib.Core.List.{List, _∷_, _++_, map, List·Memᴰ, List·Memᴰ·head, List·Memᴰ·tail, Memᴰ·append-left, Memᴰ·append-right}
 use mathlib.Core.Bool.{Bool, true, false}
-use Prim.Native.Nat.{ℕ, _+_, _-_, _≤_}
+use Prim.Native.Nat.{ℕ, _+_, _-_, _≤_, _<_}
 use native.Mathlib.Omega.{arith}
 use lib.Dec.{T, ltb, eqb, ltb→lt, lt→ltb}
-use Rattle.lists.specs.Places.{ind, sumBelow, upFrom, count, each}
+use Rattle.lists.specs.Places.{ind, sumBelow, upFrom, count, each, allOf}
 use Rattle.lists.proofs.Tests.{by-cond}
 use Rattle.lists.proofs.Counts.{count-append, count-up, each-append, each-allOf, each-up, mem-up, mem-allOf}
 use Rattle.model.specs.declared.Step.{Step}
@@ -105,23 +105,22 @@ module _ (n u d : ℕ) where
 -- TRIES
 
 module _ (n : ℕ) where
-  -- The order of the tries covers each kind.
-  tried-kind : {x : Step} (k : ℕ) → 1 ≤ k → k ≤ 7 → List·Memᴰ x (stepsOfKind n k) → List·Memᴰ x (tries n)
-  unfolding tries
-  tried-kind {x} k l h m =
-      mem-allOf 7 (λ j. stepsOfKind n (kindAt j)) (7 - k) (omega arith) (subst (λ (c : ℕ). List·Memᴰ x (stepsOfKind n c)) (omega arith) m)
+  -- the first m turns try the kinds above 7 - m
+  pub tried-kind : {x : Step} (m k : ℕ) → 7 < m + k → k ≤ 7 → List·Memᴰ x (stepsOfKind n k) → List·Memᴰ x (allOf m (λ j. stepsOfKind n (kindAt j)))
+  tried-kind {x} m k l h e =
+      mem-allOf m (λ j. stepsOfKind n (kindAt j)) (7 - k) (omega arith) (subst (λ (c : ℕ). List·Memᴰ x (stepsOfKind n c)) (omega arith) e)
 
   -- the drain tries each step that names a site of the system, or position 0
   pub tried : (x : Step) → T (named n 1 1 x) → List·Memᴰ x (tries n)
-  unfolding named stepsOfKind upFrom
+  unfolding named stepsOfKind upFrom tries
   tried (Issue i t m) k = absurd k
-  tried (Retry i) k = tried-kind 1 (omega arith) (omega arith) (mem-up Retry n i (ltb→lt i n k))
-  tried (Send i) k = tried-kind 2 (omega arith) (omega arith) (mem-up Send n i (ltb→lt i n k))
-  tried (ArriveMemory p) k = tried-kind 3 (omega arith) (omega arith) (mem-up ArriveMemory 1 p (ltb→lt p 1 k))
-  tried Serve k = tried-kind 4 (omega arith) (omega arith) (List·Memᴰ·head refl)
-  tried SendBack k = tried-kind 5 (omega arith) (omega arith) (List·Memᴰ·head refl)
-  tried (ArriveSite p) k = tried-kind 6 (omega arith) (omega arith) (mem-up ArriveSite 1 p (ltb→lt p 1 k))
-  tried (Take i) k = tried-kind 7 (omega arith) (omega arith) (mem-up Take n i (ltb→lt i n k))
+  tried (Retry i) k = tried-kind 7 1 (omega arith) (omega arith) (mem-up Retry n i (ltb→lt i n k))
+  tried (Send i) k = tried-kind 7 2 (omega arith) (omega arith) (mem-up Send n i (ltb→lt i n k))
+  tried (ArriveMemory p) k = tried-kind 7 3 (omega arith) (omega arith) (mem-up ArriveMemory 1 p (ltb→lt p 1 k))
+  tried Serve k = tried-kind 7 4 (omega arith) (omega arith) (List·Memᴰ·head refl)
+  tried SendBack k = tried-kind 7 5 (omega arith) (omega arith) (List·Memᴰ·head refl)
+  tried (ArriveSite p) k = tried-kind 7 6 (omega arith) (omega arith) (mem-up ArriveSite 1 p (ltb→lt p 1 k))
+  tried (Take i) k = tried-kind 7 7 (omega arith) (omega arith) (mem-up Take n i (ltb→lt i n k))
 
   kind-named : (k : ℕ) → T (each (named n 1 1) (stepsOfKind n k))
   unfolding named stepsOfKind each

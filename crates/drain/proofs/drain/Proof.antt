@@ -9,7 +9,7 @@ use Rattle.model.specs.Limits.{mostDrain}
 use Rattle.model.specs.Drain.{drainOf}
 use Rattle.promises.proofs.Room.{the-limits}
 use Rattle.steps.proofs.Visits.{sound-open}
-use Rattle.drain.proofs.Onward.{Onward, start, length-kept, still-sound, rested, spent, has-place, further-on}
+use Rattle.drain.proofs.Onward.{Onward, start, length-kept, rested, spent, has-place, further-on}
 use Rattle.drain.proofs.drain.Statement.{statement}
 use Rattle.drain.proofs.drain.Tie as tie
 
@@ -82,7 +82,7 @@ put-step-requires c κs =
 step-sound-requires : tie.Need-step-sound-requires Inv-steps μ-steps
 step-sound-requires c κs =
     let steps = c .before .before .before .before .before .before .before .before .before .before .before .steps in
-    still-sound (steps .inv .0)
+    steps .inv .0 .keeps
 
 add-count : tie.Need-add-count Inv-steps μ-steps
 add-count c =
