@@ -1,4 +1,5 @@
 // The longest drain: takes the steps of the record on standard input from fresh, and drains the state that they lead to, with several budgets and buffers.
+ghost use Prim.Native.Nat.{_≤_};
 use drain::drain;
 use io::print_decimal;
 use io::write_all;
@@ -26,21 +27,17 @@ fn is_done(o: Outcome) -> bool {
     true
 }
 
-// Takes the steps that stand in a record from an offset on, to its end or to a fault.
+// Takes the steps that stand in a record from an offset on, to its end or to a fault. It comes to an end: each step read ends behind its start (`ReadOn`).
 fn take_steps(s: System, bytes: &[u8], start: usize) -> Reached {
-    let size = bytes.len();
     let mut t = s;
     let mut steps: u64 = 0;
     let mut accepted: u64 = 0;
     let mut at = start;
-    'steps: while at <= size {
+    'steps: loop {
         let got = read_step(bytes, at);
         let ReadStep::One(x, next) = got else {
             break 'steps;
         };
-        if next <= at {
-            break 'steps;
-        }
         let after = step(t, x);
         let outcome = after.outcome;
         if is_done(outcome) {
@@ -95,11 +92,10 @@ fn put_drained(budget: usize, room: usize, d: Drained) {
     write_all(1, b" not quiet\n");
 }
 
-// Drains with a buffer of so many bytes, 1,312 at most.
-fn drain_within(s: System, budget: usize, room: usize) {
-    if 1312 < room {
-        return;
-    }
+// Drains with a buffer of so many bytes.
+fn drain_within(s: System, budget: usize, room: usize)
+    requires { ⌜ room ≤ 1312 ⌝ }
+{
     let mut buf = [255u8; 1312];
     let d = drain(s, budget, &mut buf[0..room]);
     put_drained(budget, room, d);

@@ -1,14 +1,18 @@
 use mathlib.Core.Logic.{⊎-elim}
+use mathlib.Core.Path.{sym, _∙_}
 use Prim.Native.Nat.{_+_, _-_, _≤_}
+use native.Mathlib.Omega.{arith}
+use lib.ListN.{length}
 use borrow.Author.Needs.{needs}
+use Rattle.promises.proofs.Endings.{step-on}
 use Rattle.longest.proofs.take_steps.Statement.{statement}
 use Rattle.longest.proofs.take_steps.Tie as tie
 
 abbrev Inv-steps : tie.InvT-steps
-Inv-steps bytes start size t₀ steps₀ accepted₀ at₀ t steps accepted at = (steps ≤ at) × (accepted ≤ at)
+Inv-steps bytes start t₀ steps₀ accepted₀ at₀ t steps accepted at = (steps ≤ at) × (accepted ≤ at)
 
 abbrev μ-steps : tie.MeasureT-steps
-μ-steps bytes start size t₀ steps₀ accepted₀ at₀ t steps accepted at = size + 1 - at
+μ-steps bytes start t₀ steps₀ accepted₀ at₀ t steps accepted at = length bytes + 1 - at
 
 steps-holds : tie.Need-steps-holds Inv-steps μ-steps
 steps-holds c = search needs
@@ -26,25 +30,43 @@ is-done-requires : tie.Need-is-done-requires Inv-steps μ-steps
 is-done-requires c κs = search needs
 
 add-accepted : tie.Need-add-accepted Inv-steps μ-steps
-add-accepted c = search needs
+add-accepted c =
+    let got = c .before .before .before .before .got in
+    let read-step = c .before .before .before .before .before .before .read-step in
+    let steps = c .before .before .before .before .before .before .before .steps in
+    let args = c .before .before .before .before .before .before .before .before .before .args in
+    let on = step-on (args .bytes .now) (steps .at) (got .given .0 .1 .0) (got .given .0 .0) (sym (read-step .ensures) ∙ got .given .1) in
+    omega (arith, on, steps .inv)
 
 add-steps : tie.Need-add-steps Inv-steps μ-steps
-add-steps c = search needs
+add-steps c =
+    let got = c .before .before .before .before .before .got in
+    let read-step = c .before .before .before .before .before .before .before .read-step in
+    let steps = c .before .before .before .before .before .before .before .before .steps in
+    let args = c .before .before .before .before .before .before .before .before .before .before .args in
+    let on = step-on (args .bytes .now) (steps .at) (got .given .0 .1 .0) (got .given .0 .0) (sym (read-step .ensures) ∙ got .given .1) in
+    omega (arith, on, steps .inv)
 
 steps-less : tie.Need-steps-less Inv-steps μ-steps
-steps-less c = search needs
+steps-less c =
+    let got = c .before .before .before .before .before .got in
+    let read-step = c .before .before .before .before .before .before .before .read-step in
+    let steps = c .before .before .before .before .before .before .before .before .steps in
+    let args = c .before .before .before .before .before .before .before .before .before .before .args in
+    let on = step-on (args .bytes .now) (steps .at) (got .given .0 .1 .0) (got .given .0 .0) (sym (read-step .ensures) ∙ got .given .1) in
+    omega (arith, on)
 
 steps-again : tie.Need-steps-again Inv-steps μ-steps
-steps-again c = ⊎-elim (λ w. (search needs, search needs)) (λ w. (search needs, search needs)) (c .before .if2 .came)
+steps-again c =
+    let got = c .before .before .before .before .before .got in
+    let read-step = c .before .before .before .before .before .before .before .read-step in
+    let steps = c .before .before .before .before .before .before .before .before .steps in
+    let args = c .before .before .before .before .before .before .before .before .before .before .args in
+    let on = step-on (args .bytes .now) (steps .at) (got .given .0 .1 .0) (got .given .0 .0) (sym (read-step .ensures) ∙ got .given .1) in
+    (omega (arith, on, steps .inv), ⊎-elim (λ w. omega (arith, on, steps .inv, w)) (λ w. omega (arith, on, steps .inv, w)) (c .before .if1 .came))
 
 returns : tie.Need-returns Inv-steps μ-steps
 returns c = search needs
-
-returns-2 : tie.Need-returns-2 Inv-steps μ-steps
-returns-2 c = search needs
-
-returns-3 : tie.Need-returns-3 Inv-steps μ-steps
-returns-3 c = search needs
 
 pub take-steps-spec : {M : Type 1} → statement M
 take-steps-spec =
@@ -61,6 +83,4 @@ take-steps-spec =
     add-steps
     steps-less
     steps-again
-    returns
-    returns-2
-    returns-3)
+    returns)
