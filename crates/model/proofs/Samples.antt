@@ -3,7 +3,7 @@ use mathlib.Core.Path.{refl}
 use mathlib.Core.List.{List, _∷_, _++_}
 use Rattle.model.specs.Sampling.{Sample, holds, EachHolds, end, _▸_}
 use Rattle.model.specs.Broken.{soundSamples}
-use Rattle.model.specs.Samples.{numberSamples, sizesSamples, protocolSamples, issueSamples, handlingSamples, takeSamples, queueSamples, drainSamples, readSamples, writeSamples, table}
+use Rattle.model.specs.Samples.{numberSamples, sizesSamples, protocolSamples, issueSamples, handlingSamples, takeSamples, queueSamples, drainSamples, readSamples, writeSamples, replaySamples, table}
 
 number-hold : EachHolds numberSamples
 unfolding holds numberSamples
@@ -55,6 +55,10 @@ write-hold =
     refl ▸ refl ▸ refl ▸ refl ▸ refl ▸ refl ▸ refl ▸ refl ▸ refl ▸ refl ▸
     refl ▸ end
 
+replay-hold : EachHolds replaySamples
+unfolding holds replaySamples
+replay-hold = refl ▸ refl ▸ refl ▸ refl ▸ refl ▸ refl ▸ refl ▸ refl ▸ end
+
 sound-hold : EachHolds soundSamples
 unfolding holds soundSamples
 sound-hold = refl ▸ refl ▸ refl ▸ refl ▸ refl ▸ refl ▸ refl ▸ end
@@ -76,4 +80,5 @@ samples =
     (all-hold queueSamples _ queue-hold
     (all-hold drainSamples _ drain-hold
     (all-hold readSamples _ read-hold
-    (all-hold writeSamples _ write-hold sound-hold)))))))))
+    (all-hold writeSamples _ write-hold
+    (all-hold replaySamples _ replay-hold sound-hold))))))))))

@@ -12,6 +12,7 @@ pub mod Steps
 pub mod Left
 pub mod Given
 pub mod Record
+pub mod Replay
 pub mod Drain
 pub mod Sampling
 pub mod Broken

@@ -5,7 +5,7 @@ use lib.ListN.{replicate}
 use Rattle.model.specs.declared.Instruction.the-variants.{Loadl, Storel, Commit, Reconcile, FenceRr, FenceRw, FenceWr, FenceWw}
 use Rattle.model.specs.declared.Step.the-variants.{Issue, Retry, Send, ArriveMemory, Serve, SendBack, ArriveSite, Take}
 use Rattle.model.specs.Sampling.{done, value, ack, no, Act, memoryLine, sizesNow, pending, going, leftNow, upward, downward, Sample, sized}
-use Rattle.model.specs.Sampling.{sample, run, _⇒_, trip, shows, drains, coded, noNumber, fresh, recorded, readsSizes, readsStep, writesSizes}
+use Rattle.model.specs.Sampling.{sample, run, _⇒_, trip, shows, drains, coded, noNumber, fresh, recorded, readsSizes, readsStep, writesSizes, lists}
 use Rattle.model.specs.Sampling.{writesStep}
 use Rattle.model.specs.Broken.{soundSamples}
 
@@ -370,9 +370,34 @@ writeSamples =
     writesStep (Send 300) (9 ∷ []) 65534 (13 ∷ 65536 ∷ []) (9 ∷ []) ∷ writesStep (Send 300) (9 ∷ []) 65533 (11 ∷ 0 ∷ []) (9 ∷ []) ∷
     []
 
+-- REPLAY
+
+unfoldable pub replaySamples : List Sample
+replaySamples =
+    -- the sample of "Replay"
+    lists (
+    0x02 ∷ 0x02 ∷ 0x04 ∷ 0x01 ∷ 0x01 ∷ 0x01 ∷ 0x00 ∷ 0x00 ∷ 0x00 ∷ 0x07 ∷ 0x03 ∷ 0x02 ∷ 0x00 ∷ 0x03 ∷ 0x00 ∷ 0x04 ∷ 0x05 ∷ 0x06 ∷ 0x00 ∷ 0x07 ∷ 0x00 ∷ []
+    ) "sites 2 words 2 lines 4 sets 1 pend 1 stall 1\n1 issue 0\n2 send 0\n3 arrive-memory 0\n4 serve 0\n5 send-back 0\n6 arrive-site 0\n7 take 0 answer 0 7 0\nleft 0 0\n" ∷
+    -- An empty record: `record 10 at 0`. Sizes alone: no step, `left 0 0`.
+    lists [] "record 10 at 0\n" ∷
+    lists (0x04 ∷ 0x04 ∷ 0x10 ∷ 0x08 ∷ 0x05 ∷ 0x08 ∷ []) "sites 4 words 4 lines 16 sets 8 pend 5 stall 8\nleft 0 0\n" ∷
+    -- with 13, with 12 or with a fault in the sizes that line is the only one
+    lists (replicate 65537 0x01) "record 13 at 65536\n" ∷ lists (0x02 ∷ 0x02 ∷ 0x04 ∷ 0x01 ∷ 0x01 ∷ 0x09 ∷ 0x04 ∷ []) "record 12 at 0\n" ∷
+    lists (0x02 ∷ 0x02 ∷ 0x04 ∷ 0x01 ∷ 0x81 ∷ []) "record 10 at 4\n" ∷
+    -- the steps before the fault are printed
+    lists (0x02 ∷ 0x02 ∷ 0x04 ∷ 0x01 ∷ 0x01 ∷ 0x01 ∷ 0x00 ∷ 0x00 ∷ 0x00 ∷ 0x07 ∷ 0x03 ∷ 0x04 ∷ 0x07 ∷ 0x80 ∷ 0x00 ∷ [])
+    "sites 2 words 2 lines 4 sets 1 pend 1 stall 1\n1 issue 0\n2 serve 8\nrecord 10 at 13\n" ∷
+    -- an acknowledgement, a retry, the longest tag, and what is left: an instruction that waits, one with an entry, and its message
+    lists (
+    0x01 ∷ 0x01 ∷ 0x02 ∷ 0x01 ∷ 0x01 ∷ 0x01 ∷ 0x00 ∷ 0x00 ∷ 0x04 ∷ 0xFF ∷ 0xFF ∷ 0xFF ∷ 0xFF ∷ 0x0F ∷ 0x00 ∷ 0x01 ∷ 0x00 ∷ 0x00 ∷ 0x00 ∷ 0x01 ∷ 0x01 ∷
+    0x00 ∷ 0x00 ∷ 0x00 ∷ 0x02 ∷ 0x00 ∷ 0x01 ∷ 0x00 ∷ []
+    )
+    "sites 1 words 1 lines 2 sets 1 pend 1 stall 1\n1 issue 0 answer 0 4294967295 ack\n2 issue 0\n3 issue 0\n4 retry 9\nleft 2 1\n" ∷
+    []
+
 -- THE TABLE
 
 unfoldable pub table : List Sample
 table =
     numberSamples ++ (sizesSamples ++ (protocolSamples ++ (issueSamples ++ (handlingSamples ++ (takeSamples ++
-    (queueSamples ++ (drainSamples ++ (readSamples ++ (writeSamples ++ soundSamples)))))))))
+    (queueSamples ++ (drainSamples ++ (readSamples ++ (writeSamples ++ (replaySamples ++ soundSamples))))))))))

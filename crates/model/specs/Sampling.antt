@@ -3,6 +3,7 @@ use mathlib.Core.Path.{_≡_}
 use mathlib.Core.List.{List, [], _∷_, _++_}
 use mathlib.Core.Bool.{Bool, true, false, _&&_, cond}
 use Prim.Native.Nat.{ℕ, suc}
+use Prim.Native.String.{String}
 use lib.Dec.{eqb}
 use lib.ListN.{getD, length, take}
 use Rattle.numbers.specs.declared.Got.{Got}
@@ -34,6 +35,7 @@ use Rattle.model.specs.Given.{numberOf, placeGiven, given, answerGiven, 
 use Rattle.model.specs.Record.{Written, mostNumber, numbersOf, recordOf, readSizes, readStep, writeSizes, writeStep, bytesOfAll, operands}
 use Rattle.model.specs.Record.{stepsBytes, consed, readNumbers, sizesFrom, issueLimits, instructionOf, issueFrom, readIssue, moveOf, readMove, readFields, stepAt}
 use Rattle.model.specs.Record.{readStepOf, writtenTo, sixOf}
+use Rattle.model.specs.Replay.{text, digits, nameOf, answerText, outcomeText, listedFrom, listing}
 use Rattle.model.specs.Drain.{Drain, drainOf, candidates, quiet, stepsOfKind, tries, firstOf, drained}
 use Rattle.lists.specs.Places.{allBelow, sumBelow, upFrom, fits, array, weigh, unlike, removed, firstAt, count, each, some, allOf}
 use Rattle.model.specs.Limits.{inLimits}
@@ -190,6 +192,8 @@ pub data Sample : Type 0 where
   -- writing sizes into a buffer, or a step at an offset of it, gives these numbers and leaves a buffer
   writesSizes : Sizes → List ℕ → List ℕ → List ℕ → Sample
   writesStep : Step → List ℕ → ℕ → List ℕ → List ℕ → Sample
+  -- the listing of bytes is this text
+  lists : List ℕ → String → Sample
 
 unfoldable pub allRight : System → List Act → Bool
 allRight s [] = true
@@ -224,7 +228,7 @@ unfolding
     readNumbers sizesFrom readSizes issueLimits instructionOf issueFrom readIssue moveOf readMove readFields stepAt readStepOf writtenTo writeSizes writeStep candidates
     quiet stepsOfKind tries firstOf drained drainOf sameNumbers givenNumbers sizesGiven stepGiven wroteGiven gotGiven ranBy andThen drainNumbers drainRan
     ran memoryLine sizesNow entryNumbers pending messageNumbers queued siteQueued going leftNow upward downward allRight freshRight readsAll wroteRight
-    readsRecord
+    readsRecord text digits nameOf answerText outcomeText listedFrom listing
 holds (coded n bs) =
     sameNumbers (bytesOf n) bs && sameNumbers (gotGiven (readNumber mostNumber (9 ∷ bs ++ (9 ∷ [])) 1)) (0 ∷ suc (length bs) ∷ n ∷ [])
 holds (noNumber bs) = sameNumbers (gotGiven (readNumber mostNumber (9 ∷ bs) 1)) (10 ∷ 1 ∷ [])
@@ -234,6 +238,7 @@ holds (readsSizes bs ns) = sameNumbers (sizesGiven (readSizes bs)) ns
 holds (readsStep bs at ns) = sameNumbers (stepGiven (readStep bs at)) ns
 holds (writesSizes z buf ns after) = wroteRight (writeSizes z buf) ns after
 holds (writesStep x buf at ns after) = wroteRight (writeStep x buf at) ns after
+holds (lists bs t) = sameNumbers (listing bs) (text t)
 
 abbrev pub sized : ℕ → ℕ → ℕ → ℕ → ℕ → ℕ → Sizes
 sized sites words lines sets pend stall = record { sites = sites; words = words; lines = lines; sets = sets; pend = pend; stall = stall }
