@@ -1,0 +1,58 @@
+-- A line grows: what was put at the end of its first bytes stands behind them.
+use mathlib.Core.Path.{_≡_, ap, sym, _∙_}
+use mathlib.Core.List.{List, [], _∷_, _++_, append-assoc}
+use Prim.Native.Nat.{ℕ, _+_, _≤_, _<_}
+use native.Mathlib.Omega.{arith}
+use native.Mathlib.Numerals.{add-one}
+use lib.ListN.{length, take, drop, getD, set, length-append}
+use lib.Seq.{sets, sets-eq, take-at, take-suc, length-take-le}
+use borrow.Author.Tests.{le-leb, lt-leb}
+use Rattle.lists.proofs.Stores.{sets-append}
+use Rattle.numbers.specs.Groups.{Put, putTo, putBytes}
+use Rattle.model.specs.declared.Refusal.the-variants.{BufferShort}
+use Rattle.model.specs.declared.Wrote.the-variants.{Past, NotWritten}
+use Rattle.model.specs.Record.{Written, written}
+use Rattle.model.specs.Replay.{line, linedAt}
+
+-- where there is room, the bytes are put
+put-there : (new buf : List ℕ) (at : ℕ) → at + length new ≤ length buf → putBytes new buf at ≡ putTo (at + length new) (sets buf at new)
+unfolding putBytes
+put-there new buf at h = rw (le-leb (at + length new) (length buf) h)
+
+-- where there is room: the offset past them, and the bytes up to there
+pub put-behind : (new buf after : List ℕ) (at past : ℕ) → at + length new ≤ length buf → putTo past after ≡ putBytes new buf at →
+    (past ≡ at + length new) × (take past after ≡ take at buf ++ new)
+put-behind new buf after at past room e =
+    let put : putTo past after ≡ putTo (at + length new) (sets buf at new) = e ∙ put-there new buf at room in
+    let p : past ≡ at + length new = ap (λ (x : Put). x .past) put in
+    let b : after ≡ sets buf at new = ap (λ (x : Put). x .buffer) put in
+    let l : length (take at buf ++ new) ≡ at + length new =
+    length-append (take at buf) new ∙ ap (λ (n : ℕ). n + length new) (length-take-le at buf (omega arith)) in (
+      p,
+      rw (p, b, sets-eq new buf at room) (take-at (take at buf ++ new) (drop (at + length new) buf) (at + length new) l),
+    )
+
+-- one more byte of a text that is copied
+pub copied : (buf text : List ℕ) (at i : ℕ) → i < length text →
+    sets buf at (take (i + 1) text) ≡ set (sets buf at (take i text)) (at + i) (getD text i 0)
+copied buf text at i h =
+    rw (add-one i, take-suc text i 0 h, sets-append (take i text) (getD text i 0 ∷ []) buf at, length-take-le i text (omega arith))
+
+-- a line that has room is put whole
+pub lined : (new buf after : List ℕ) (at past : ℕ) → at + length new ≤ length buf → putTo past after ≡ putBytes new buf at →
+    written (Past past) after ≡ linedAt new buf at
+unfolding linedAt
+lined new buf after at past room e =
+    rw (le-leb (at + length new) (length buf) room) (ap (λ (p : Put). written (Past (p .past)) (p .buffer)) (e ∙ put-there new buf at room))
+
+-- and else not at all
+pub not-lined : (new buf : List ℕ) (at : ℕ) → length buf < at + length new → written (NotWritten BufferShort) buf ≡ linedAt new buf at
+unfolding linedAt
+not-lined new buf at short = rw (lt-leb (at + length new) (length buf) short)
+
+pub same-line : (t u buf : List ℕ) (at : ℕ) → t ≡ u → linedAt (line t) buf at ≡ linedAt (line u) buf at
+same-line t u buf at e = ap (λ (l : List ℕ). linedAt (line l) buf at) e
+
+-- three pieces, put one behind the other, are one piece
+pub three-behind : (l a b c : List ℕ) → l ++ a ++ b ++ c ≡ l ++ (a ++ b ++ c)
+three-behind l a b c = ap (λ (m : List ℕ). m ++ c) (append-assoc l a b) ∙ append-assoc l (a ++ b) c

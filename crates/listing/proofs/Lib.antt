@@ -1,0 +1,4 @@
+pub mod Behind
+pub mod Decimal
+pub mod Remaining
+pub mod Spelled
