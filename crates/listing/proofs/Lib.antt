@@ -1,4 +1,2 @@
-pub mod Behind
-pub mod Decimal
+pub mod Lined
 pub mod Remaining
-pub mod Spelled

@@ -1,8 +1,5 @@
 // The lines that replay prints, each written into a lent buffer. What they are is in model/specs/Replay.
-mod decimals;
 mod left;
-mod names;
-mod words;
 
 ghost use mathlib.Core.Path.{_≡_};
 ghost use mathlib.Core.List.{_++_};
@@ -10,8 +7,6 @@ ghost use Prim.Native.Nat.{_+_, _≤_};
 ghost use lib.ListN.{length, take};
 ghost use Rattle.model.specs.Record.{written};
 ghost use Rattle.model.specs.Replay.{text, decimal, nameOf, answerText, outcomeText, sizesLine, stepLine, leftLine, recordLine, linedAt};
-use crate::words::fits;
-pub use decimals::put_decimal;
 pub use left::messages_left;
 pub use left::outstanding_left;
 use model::Answer;
@@ -20,8 +15,10 @@ use model::Refusal;
 use model::Sizes;
 use model::Step;
 use model::Wrote;
-pub use names::put_name;
-pub use words::put_text;
+use words::fits;
+use words::put_decimal;
+use words::put_name;
+use words::put_text;
 
 // More bytes than any line takes: the longest is that of sizes, with six words and six numbers of twenty digits at most.
 const LINE: usize = 192;

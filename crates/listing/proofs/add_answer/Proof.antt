@@ -1,4 +1,5 @@
-use Rattle.listing.proofs.Behind.{put-behind, three-behind}
+use Rattle.words.proofs.Behind.{put-behind}
+use Rattle.listing.proofs.Lined.{three-behind}
 use Rattle.model.specs.Replay.{text, word, answerText}
 use lib.ListN.{take}
 use Prim.Native.Nat.{ℕ}

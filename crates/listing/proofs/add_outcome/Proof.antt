@@ -1,5 +1,5 @@
-use Rattle.listing.proofs.Decimal.{decimal-last, decimal-most}
-use Rattle.listing.proofs.Behind.{put-behind}
+use Rattle.words.proofs.Decimal.{decimal-last, decimal-most}
+use Rattle.words.proofs.Behind.{put-behind}
 use Rattle.model.specs.Replay.{decimal, outcomeText, answerText}
 use lib.ListN.{length, take}
 use Prim.Native.Nat.{ℕ}

@@ -1,6 +1,6 @@
 use Rattle.model.specs.Replay.{decimal}
-use Rattle.listing.proofs.Decimal.{decimal-most}
-use Rattle.listing.proofs.Behind.{put-behind}
+use Rattle.words.proofs.Decimal.{decimal-most}
+use Rattle.words.proofs.Behind.{put-behind}
 use lib.ListN.{take}
 use Prim.Native.Nat.{ℕ}
 use mathlib.Core.List.{List, _++_, append-assoc}

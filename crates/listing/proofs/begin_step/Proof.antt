@@ -1,6 +1,6 @@
-use Rattle.listing.proofs.Spelled.{name-most}
-use Rattle.listing.proofs.Decimal.{decimal-most}
-use Rattle.listing.proofs.Behind.{put-behind}
+use Rattle.words.proofs.Spelled.{name-most}
+use Rattle.words.proofs.Decimal.{decimal-most}
+use Rattle.words.proofs.Behind.{put-behind}
 use Rattle.model.specs.Replay.{text, decimal, nameOf}
 use Prim.Native.Nat.{ℕ}
 use mathlib.Core.List.{List, [], _∷_, _++_}

@@ -5,7 +5,8 @@ use mathlib.Core.List.{List, [], _∷_, _++_}
 use lib.Seq.{length-take-le}
 use lib.ListN.{length-append, length, take}
 use Rattle.model.specs.Replay.{text}
-use Rattle.listing.proofs.Behind.{put-behind, lined, not-lined}
+use Rattle.words.proofs.Behind.{put-behind}
+use Rattle.listing.proofs.Lined.{lined, not-lined}
 use borrow.Author.Tests.{leb-true, leb-false}
 use mathlib.Core.Path.{_≡_, sym, _∙_, ap}
 use native.Mathlib.Omega.{arith}

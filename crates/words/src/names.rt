@@ -2,7 +2,7 @@
 ghost use mathlib.Core.Path.{_≡_};
 ghost use Rattle.numbers.specs.Groups.{putTo, putBytes};
 ghost use Rattle.model.specs.Replay.{nameOf};
-use crate::words::put_text;
+use crate::put_text;
 use model::Step;
 
 // Writes a step's name at an offset of the buffer, and gives the offset past it; nothing is written where it has no room.

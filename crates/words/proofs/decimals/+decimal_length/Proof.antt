@@ -4,12 +4,12 @@ use native.Mathlib.Omega.{arith}
 use lib.ListN.{length}
 use borrow.Fn.Kinds.{In}
 use borrow.Fn.PlainCycle.{Measures, is, falls, and}
-use Rattle.listing.proofs.Decimal.{decimal-last, decimal-most, length-more}
-use Rattle.listing.proofs.decimals.decimal_length.Reads as decimal-length
-use Rattle.listing.proofs.decimals.decimal_length.Kinds as decimal-length-kinds
-use Rattle.listing.proofs.decimals.+decimal_length.Lts-decimal_length as decimal-length-lts
-use Rattle.listing.proofs.decimals.+decimal_length.{statement}
-use Rattle.listing.proofs.decimals.+decimal_length.Tie.{close}
+use Rattle.words.proofs.Decimal.{decimal-last, decimal-most, length-more}
+use Rattle.words.proofs.decimals.decimal_length.Reads as decimal-length
+use Rattle.words.proofs.decimals.decimal_length.Kinds as decimal-length-kinds
+use Rattle.words.proofs.decimals.+decimal_length.Lts-decimal_length as decimal-length-lts
+use Rattle.words.proofs.decimals.+decimal_length.{statement}
+use Rattle.words.proofs.decimals.+decimal_length.Tie.{close}
 
 abbrev μ-decimal-length : Measures 0 decimal-length-kinds.ps ℕ
 μ-decimal-length κs a = a .0

@@ -1,13 +1,18 @@
-// Bytes at an offset of a lent buffer.
+// Texts, decimals and the names of the steps, written at an offset of a lent buffer.
+mod decimals;
+mod names;
+
 ghost use mathlib.Core.Path.{_≡_};
 ghost use Prim.Native.Nat.{_+_, _≤_};
 ghost use lib.ListN.{length};
 ghost use lib.Seq.{sets};
 ghost use lib.Dec.{leb};
 ghost use Rattle.numbers.specs.Groups.{putTo, putBytes};
+pub use decimals::put_decimal;
+pub use names::put_name;
 
-// So many bytes have room at an offset.
-pub(crate) fn fits(room: usize, at: usize, size: usize) -> bool
+// So many bytes have room at an offset of a buffer.
+pub fn fits(room: usize, at: usize, size: usize) -> bool
     ensures { λ r. ⌜ r ≡ leb (at + size) room ⌝ }
 {
     if room < size {

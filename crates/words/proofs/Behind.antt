@@ -1,21 +1,17 @@
--- A line grows: what was put at the end of its first bytes stands behind them.
-use mathlib.Core.Path.{_≡_, ap, sym, _∙_}
-use mathlib.Core.List.{List, [], _∷_, _++_, append-assoc}
+-- A text grows: what was put at the end of its first bytes stands behind them.
+use mathlib.Core.Path.{_≡_, ap, _∙_}
+use mathlib.Core.List.{List, [], _∷_, _++_}
 use Prim.Native.Nat.{ℕ, _+_, _≤_, _<_}
 use native.Mathlib.Omega.{arith}
 use native.Mathlib.Numerals.{add-one}
 use lib.ListN.{length, take, drop, getD, set, length-append}
 use lib.Seq.{sets, sets-eq, take-at, take-suc, length-take-le}
-use borrow.Author.Tests.{le-leb, lt-leb}
+use borrow.Author.Tests.{le-leb}
 use Rattle.lists.proofs.Stores.{sets-append}
 use Rattle.numbers.specs.Groups.{Put, putTo, putBytes}
-use Rattle.model.specs.declared.Refusal.the-variants.{BufferShort}
-use Rattle.model.specs.declared.Wrote.the-variants.{Past, NotWritten}
-use Rattle.model.specs.Record.{Written, written}
-use Rattle.model.specs.Replay.{line, linedAt}
 
 -- where there is room, the bytes are put
-put-there : (new buf : List ℕ) (at : ℕ) → at + length new ≤ length buf → putBytes new buf at ≡ putTo (at + length new) (sets buf at new)
+pub put-there : (new buf : List ℕ) (at : ℕ) → at + length new ≤ length buf → putBytes new buf at ≡ putTo (at + length new) (sets buf at new)
 unfolding putBytes
 put-there new buf at h = rw (le-leb (at + length new) (length buf) h)
 
@@ -37,22 +33,3 @@ pub copied : (buf text : List ℕ) (at i : ℕ) → i < length text →
     sets buf at (take (i + 1) text) ≡ set (sets buf at (take i text)) (at + i) (getD text i 0)
 copied buf text at i h =
     rw (add-one i, take-suc text i 0 h, sets-append (take i text) (getD text i 0 ∷ []) buf at, length-take-le i text (omega arith))
-
--- a line that has room is put whole
-pub lined : (new buf after : List ℕ) (at past : ℕ) → at + length new ≤ length buf → putTo past after ≡ putBytes new buf at →
-    written (Past past) after ≡ linedAt new buf at
-unfolding linedAt
-lined new buf after at past room e =
-    rw (le-leb (at + length new) (length buf) room) (ap (λ (p : Put). written (Past (p .past)) (p .buffer)) (e ∙ put-there new buf at room))
-
--- and else not at all
-pub not-lined : (new buf : List ℕ) (at : ℕ) → length buf < at + length new → written (NotWritten BufferShort) buf ≡ linedAt new buf at
-unfolding linedAt
-not-lined new buf at short = rw (lt-leb (at + length new) (length buf) short)
-
-pub same-line : (t u buf : List ℕ) (at : ℕ) → t ≡ u → linedAt (line t) buf at ≡ linedAt (line u) buf at
-same-line t u buf at e = ap (λ (l : List ℕ). linedAt (line l) buf at) e
-
--- three pieces, put one behind the other, are one piece
-pub three-behind : (l a b c : List ℕ) → l ++ a ++ b ++ c ≡ l ++ (a ++ b ++ c)
-three-behind l a b c = ap (λ (m : List ℕ). m ++ c) (append-assoc l a b) ∙ append-assoc l (a ++ b) c

@@ -1,7 +1,7 @@
 use Rattle.model.specs.Replay.{nameOf, text}
 use borrow.Author.Needs.{needs}
-use Rattle.listing.proofs.names.put_name.Statement.{statement}
-use Rattle.listing.proofs.names.put_name.Tie as tie
+use Rattle.words.proofs.names.put_name.Statement.{statement}
+use Rattle.words.proofs.names.put_name.Tie as tie
 
 enum-told : tie.Need-enum-told
 enum-told c = search needs

@@ -13,7 +13,7 @@ use Rattle.lists.proofs.Counts.{each-append}
 use Rattle.lists.proofs.Stores.{sets-append}
 use Rattle.numbers.specs.Groups.{Put, putTo}
 use Rattle.model.specs.Replay.{digits, decimal}
-use Rattle.listing.specs.Digits.{isDigit, valueFrom, valueOf}
+use Rattle.words.specs.Digits.{isDigit, valueFrom, valueOf}
 
 -- THE LAST DIGIT, AND THOSE BEFORE IT
 

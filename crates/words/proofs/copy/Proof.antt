@@ -1,13 +1,13 @@
 use Prim.Native.Nat.{ℕ, _+_, _-_, _≤_}
 use mathlib.Core.List.{List}
-use Rattle.listing.proofs.Behind.{copied}
+use Rattle.words.proofs.Behind.{copied}
 use lib.Seq.{sets, length-sets, take-length}
 use lib.ListN.{length, take, set, getD}
 use mathlib.Core.Path.{_≡_, sym, ap, _∙_}
 use native.Mathlib.Omega.{arith}
 use borrow.Author.Needs.{needs}
-use Rattle.listing.proofs.words.copy.Statement.{statement}
-use Rattle.listing.proofs.words.copy.Tie as tie
+use Rattle.words.proofs.copy.Statement.{statement}
+use Rattle.words.proofs.copy.Tie as tie
 
 abbrev Inv-loop : tie.InvT-loop
 Inv-loop buf₀ at text size i₀ buf i = (i ≤ size) × (size ≡ length text) × (at + size ≤ length buf₀) × (buf ≡ sets buf₀ at (take i text))

@@ -7,8 +7,8 @@ use borrow.Author.Tests.{leb-true}
 use borrow.Author.Needs.{needs}
 use Rattle.numbers.specs.Groups.{putBytes}
 use Rattle.model.specs.Replay.{decimal}
-use Rattle.listing.proofs.decimals.put_decimal.Statement.{statement}
-use Rattle.listing.proofs.decimals.put_decimal.Tie as tie
+use Rattle.words.proofs.decimals.put_decimal.Statement.{statement}
+use Rattle.words.proofs.decimals.put_decimal.Tie as tie
 
 decimal-length-requires : tie.Need-decimal-length-requires
 decimal-length-requires c κs = search needs

@@ -5,8 +5,8 @@ use Prim.Native.Nat.{_+_}
 use mathlib.Core.Path.{sym, _∙_}
 use native.Mathlib.Omega.{arith}
 use borrow.Author.Needs.{needs}
-use Rattle.listing.proofs.words.put_text.Statement.{statement}
-use Rattle.listing.proofs.words.put_text.Tie as tie
+use Rattle.words.proofs.put_text.Statement.{statement}
+use Rattle.words.proofs.put_text.Tie as tie
 
 fits-requires : tie.Need-fits-requires
 fits-requires c κs = search needs

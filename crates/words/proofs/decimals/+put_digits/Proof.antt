@@ -5,12 +5,12 @@ use lib.ListN.{length, length-set}
 use borrow.Fn.Kinds.{In}
 use borrow.Fn.PlainCycle.{Measures, is, falls, and}
 use Rattle.numbers.specs.Groups.{Put}
-use Rattle.listing.proofs.Decimal.{decimal-last, length-more, put-more}
-use Rattle.listing.proofs.decimals.put_digits.Reads as put-digits
-use Rattle.listing.proofs.decimals.put_digits.Kinds as put-digits-kinds
-use Rattle.listing.proofs.decimals.+put_digits.Lts-put_digits as put-digits-lts
-use Rattle.listing.proofs.decimals.+put_digits.{statement}
-use Rattle.listing.proofs.decimals.+put_digits.Tie.{close}
+use Rattle.words.proofs.Decimal.{decimal-last, length-more, put-more}
+use Rattle.words.proofs.decimals.put_digits.Reads as put-digits
+use Rattle.words.proofs.decimals.put_digits.Kinds as put-digits-kinds
+use Rattle.words.proofs.decimals.+put_digits.Lts-put_digits as put-digits-lts
+use Rattle.words.proofs.decimals.+put_digits.{statement}
+use Rattle.words.proofs.decimals.+put_digits.Tie.{close}
 
 abbrev μ-put-digits : Measures 1 put-digits-kinds.ps ℕ
 μ-put-digits κs a = a .1 .1 .0

@@ -1,0 +1,31 @@
+-- A line, written whole or not at all.
+use mathlib.Core.Path.{_≡_, ap, _∙_}
+use mathlib.Core.List.{List, _++_, append-assoc}
+use Prim.Native.Nat.{ℕ, _+_, _≤_, _<_}
+use lib.ListN.{length}
+use borrow.Author.Tests.{le-leb, lt-leb}
+use Rattle.numbers.specs.Groups.{Put, putTo, putBytes}
+use Rattle.model.specs.declared.Refusal.the-variants.{BufferShort}
+use Rattle.model.specs.declared.Wrote.the-variants.{Past, NotWritten}
+use Rattle.model.specs.Record.{written}
+use Rattle.model.specs.Replay.{line, linedAt}
+use Rattle.words.proofs.Behind.{put-there}
+
+-- a line that has room is put whole
+pub lined : (new buf after : List ℕ) (at past : ℕ) → at + length new ≤ length buf → putTo past after ≡ putBytes new buf at →
+    written (Past past) after ≡ linedAt new buf at
+unfolding linedAt
+lined new buf after at past room e =
+    rw (le-leb (at + length new) (length buf) room) (ap (λ (p : Put). written (Past (p .past)) (p .buffer)) (e ∙ put-there new buf at room))
+
+-- and else not at all
+pub not-lined : (new buf : List ℕ) (at : ℕ) → length buf < at + length new → written (NotWritten BufferShort) buf ≡ linedAt new buf at
+unfolding linedAt
+not-lined new buf at short = rw (lt-leb (at + length new) (length buf) short)
+
+pub same-line : (t u buf : List ℕ) (at : ℕ) → t ≡ u → linedAt (line t) buf at ≡ linedAt (line u) buf at
+same-line t u buf at e = ap (λ (l : List ℕ). linedAt (line l) buf at) e
+
+-- three pieces, put one behind the other, are one piece
+pub three-behind : (l a b c : List ℕ) → l ++ a ++ b ++ c ≡ l ++ (a ++ b ++ c)
+three-behind l a b c = ap (λ (m : List ℕ). m ++ c) (append-assoc l a b) ∙ append-assoc l (a ++ b) c
