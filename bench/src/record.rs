@@ -24,6 +24,16 @@ pub enum Instruction {
     Fence(u32, u32, u32),
 }
 
+impl Instruction {
+    /// Its first and its last address, the same where there is one.
+    pub fn addresses(self) -> (u32, u32) {
+        match self {
+            Instruction::Loadl(a) | Instruction::Storel(a, _) | Instruction::Commit(a) | Instruction::Reconcile(a) => (a, a),
+            Instruction::Fence(_, first, second) => (first, second),
+        }
+    }
+}
+
 #[derive(Clone, Copy, Debug, PartialEq, Eq)]
 pub enum Step {
     Issue { site: u32, tag: u32, instruction: Instruction },
@@ -34,6 +44,31 @@ pub enum Step {
     SendBack,
     ArriveSite(u32),
     Take(u32),
+}
+
+impl Step {
+    /// The number of its kind.
+    pub fn number(self) -> u32 {
+        match self {
+            Step::Issue { .. } => 0,
+            Step::Retry(_) => 1,
+            Step::Send(_) => 2,
+            Step::ArriveMemory(_) => 3,
+            Step::Serve => 4,
+            Step::SendBack => 5,
+            Step::ArriveSite(_) => 6,
+            Step::Take(_) => 7,
+        }
+    }
+
+    /// Where no other message is under way: the steps that carry a site's request to memory and the reply back.
+    pub fn trip(site: u32) -> [Step; 6] {
+        [Step::Send(site), Step::ArriveMemory(0), Step::Serve, Step::SendBack, Step::ArriveSite(0), Step::Take(site)]
+    }
+}
+
+pub fn in_limits(sizes: [u32; 6]) -> bool {
+    sizes.iter().zip(LIMITS).all(|(size, (least, most))| (least..=most).contains(size))
 }
 
 /// Reads forward through a record.
@@ -84,8 +119,7 @@ pub fn read_sizes(bytes: &[u8]) -> Result<([u32; 6], usize), Refusal> {
     for size in &mut sizes {
         *size = cursor.number()?;
     }
-    let fit = sizes.iter().zip(LIMITS).all(|(size, (least, most))| (least..=most).contains(size));
-    if fit {
+    if in_limits(sizes) {
         Ok((sizes, cursor.at))
     } else {
         Err(Refusal::SizeOutside)
@@ -141,23 +175,31 @@ pub fn write_number(out: &mut Vec<u8>, mut n: u32) {
 
 /// Appends a step: its number, then its fields.
 pub fn write_step(out: &mut Vec<u8>, step: Step) {
-    let numbers: &[u32] = match step {
+    write_number(out, step.number());
+    let fields: &[u32] = match step {
         Step::Issue { site, tag, instruction } => match instruction {
-            Instruction::Loadl(a) => &[0, site, 0, tag, a],
-            Instruction::Storel(a, value) => &[0, site, 1, tag, a, value],
-            Instruction::Commit(a) => &[0, site, 2, tag, a],
-            Instruction::Reconcile(a) => &[0, site, 3, tag, a],
-            Instruction::Fence(kind, a, b) => &[0, site, kind, tag, a, b],
+            Instruction::Loadl(a) => &[site, 0, tag, a],
+            Instruction::Storel(a, value) => &[site, 1, tag, a, value],
+            Instruction::Commit(a) => &[site, 2, tag, a],
+            Instruction::Reconcile(a) => &[site, 3, tag, a],
+            Instruction::Fence(kind, a, b) => &[site, kind, tag, a, b],
         },
-        Step::Retry(site) => &[1, site],
-        Step::Send(site) => &[2, site],
-        Step::ArriveMemory(position) => &[3, position],
-        Step::Serve => &[4],
-        Step::SendBack => &[5],
-        Step::ArriveSite(position) => &[6, position],
-        Step::Take(site) => &[7, site],
+        Step::Serve | Step::SendBack => &[],
+        Step::Retry(n) | Step::Send(n) | Step::ArriveMemory(n) | Step::ArriveSite(n) | Step::Take(n) => &[n],
     };
-    for n in numbers {
+    for n in fields {
         write_number(out, *n);
     }
+}
+
+/// "A record is the six sizes, then the steps to the end."
+pub fn record(sizes: [u32; 6], steps: &[Step]) -> Vec<u8> {
+    let mut out = Vec::new();
+    for size in sizes {
+        write_number(&mut out, size);
+    }
+    for step in steps {
+        write_step(&mut out, *step);
+    }
+    out
 }

@@ -38,12 +38,13 @@ impl Seen {
     fn mix_step(&mut self, step: Step) {
         match step {
             Step::Issue { site, tag, instruction } => {
-                let (kind, first, last, value) = match instruction {
-                    Instruction::Loadl(a) => (0, a, a, 0),
-                    Instruction::Storel(a, v) => (1, a, a, v),
-                    Instruction::Commit(a) => (2, a, a, 0),
-                    Instruction::Reconcile(a) => (3, a, a, 0),
-                    Instruction::Fence(k, a, b) => (k, a, b, 0),
+                let (first, last) = instruction.addresses();
+                let (kind, value) = match instruction {
+                    Instruction::Loadl(_) => (0, 0),
+                    Instruction::Storel(_, v) => (1, v),
+                    Instruction::Commit(_) => (2, 0),
+                    Instruction::Reconcile(_) => (3, 0),
+                    Instruction::Fence(k, ..) => (k, 0),
                 };
                 self.mix_all(&[0, site, tag, kind, first, last, value]);
             }
