@@ -4,6 +4,7 @@ pub mod given;
 mod handling;
 mod issue;
 mod list;
+pub mod listing;
 pub mod model;
 pub mod record;
 pub mod rows;
