@@ -95,7 +95,7 @@ impl Site {
     }
 
     /// "Not cached: if this line is pending it must wait, else acknowledge." Full pend entries do not matter: none is added.
-    fn not_cached(&mut self, access: Access, [line_pending, acknowledged]: [Row; 2]) -> (Row, Handled) {
+    fn not_cached(&self, access: Access, [line_pending, acknowledged]: [Row; 2]) -> (Row, Handled) {
         if self.is_pending(access.at.line) {
             (line_pending, Handled::MustWait)
         } else {

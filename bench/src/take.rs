@@ -46,9 +46,9 @@ impl Site {
         }
     }
 
-    /// "Where the line goes into an empty place, the entry is removed. Where caching displaces another line: if all Clean, it is dropped and the
-    /// entry removed. If any word is Dirty, its write-back is queued and a voluntary entry for the displaced line, without data or tag, replaces
-    /// the entry in the same position."
+    /// "Where the line goes into an empty place, the entry is removed; the entries behind a removed one move up. Where caching displaces another
+    /// line: if all Clean, it is dropped and the entry removed. If any word is Dirty, its write-back is queued and a voluntary entry for the
+    /// displaced line, without data or tag, replaces the entry in the same position."
     fn put_in_cache(&mut self, sizes: Sizes, index: usize, cell: Cell, [empty, clean, dirty]: [Row; 3]) -> Row {
         let line = self.pend[index].line();
         match self.place(sizes, line).replace(Cached { line, cell }) {

@@ -1,5 +1,7 @@
-//! Writes the record of the state with the longest drain: sizes 4 4 16 1 5 8; at each site a Dirty line, five fetches for Storels under way, and eight
-//! Storels that wait. Each of the thirteen Storels displaces the Dirty line before it, so that each is two trips of six steps, and each of the eight has a retry.
+//! Writes the record of the state with the longest drain: sizes 4 4 16 1 5 8; at each site a Dirty line, five fetches for Storels under way,
+//! and eight Storels that wait. Each of the thirteen Storels displaces the Dirty line before it, so that each is two trips of six steps, and
+//! each of the eight has a retry.
+
 use bench::record::{record, Instruction, Step};
 use std::io::{self, Write};
 
