@@ -5,7 +5,9 @@ use crate::model::System;
 use crate::record::{read_sizes, read_step, Refusal, Step};
 use crate::rows::Row;
 use std::fmt::Arguments;
-use std::io::Write;
+use std::fs;
+use std::io::{self, Write};
+use std::path::Path;
 
 /// The steps' names, in the order of their numbers.
 pub const STEP_NAMES: [&str; 8] = ["issue", "retry", "send", "arrive-memory", "serve", "send-back", "arrive-site", "take"];
@@ -66,4 +68,10 @@ fn step_line(out: &mut Vec<u8>, count: u32, step: Step, outcome: Outcome) {
 
 fn line(out: &mut Vec<u8>, text: Arguments) {
     writeln!(out, "{text}").expect("a Vec takes every byte");
+}
+
+/// The files NAME.record and NAME.listing.
+pub fn write_pair(dir: &Path, name: &str, record: &[u8], listing: &[u8]) -> io::Result<()> {
+    fs::write(dir.join(format!("{name}.record")), record)?;
+    fs::write(dir.join(format!("{name}.listing")), listing)
 }
