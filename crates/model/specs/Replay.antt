@@ -92,11 +92,11 @@ recordLine why = line (word "record " (numberOf why) ++ word " at " (placeGiven 
 
 -- THE LISTING OF A RECORD
 
--- A step's line, and what is listed behind it.
-abbrev stepAnd : ℕ → Step → After → (System → List ℕ) → List ℕ
+-- a step's line, and what is listed behind it
+abbrev pub stepAnd : ℕ → Step → After → (System → List ℕ) → List ℕ
 stepAnd n x a behind = stepLine n x (a .outcome) ++ behind (a .system)
 
--- the lines of the steps from an offset on, and `left`, or `record` instead of it. Each step takes a byte at least, so that g of them come to the end.
+-- the lines of the steps from an offset on, g at most, and `left`, or `record` instead of it
 unfoldable pub listedFrom : ℕ → List ℕ → ℕ → ℕ → System → List ℕ
 listedFrom zero bs at n s = []
 listedFrom (suc g) bs at n s =
@@ -106,13 +106,13 @@ listedFrom (suc g) bs at n s =
       | NoStep why ↦ recordLine why
     ]
 
+-- a step takes a byte at least, so that no line is missed
+abbrev pub listedAt : List ℕ → ℕ → ℕ → System → List ℕ
+listedAt bs at n s = listedFrom (suc (length bs - at)) bs at n s
+
 -- with 13, with 12 or with a fault in the sizes that line is the only one
 unfoldable pub listing : List ℕ → List ℕ
-listing bs =
-    elim (readSizes bs) [
-      | Sized z past ↦ sizesLine z ++ listedFrom (suc (length bs)) bs past 1 (blank z)
-      | NoSizes why ↦ recordLine why
-    ]
+listing bs = elim (readSizes bs) [ Sized z past ↦ sizesLine z ++ listedAt bs past 1 (blank z) | NoSizes why ↦ recordLine why ]
 
 -- WRITING A LINE
 

@@ -29,5 +29,6 @@ pub mod ReadBack
 pub mod ReadOff
 pub mod Endings
 pub mod Writes
+pub mod Listed
 pub mod Drained
 pub mod Demands

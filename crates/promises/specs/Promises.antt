@@ -14,7 +14,7 @@ use Rattle.model.specs.declared.Step.{Step}
 use Rattle.model.specs.declared.Refusal.{Refusal}
 use Rattle.model.specs.declared.Refusal.the-variants.{NoRecord, SizeOutside, RecordLong}
 use Rattle.model.specs.declared.Outcome.the-variants.{Refused}
-use Rattle.model.specs.declared.ReadSizes.the-variants.{NoSizes}
+use Rattle.model.specs.declared.ReadSizes.the-variants.{Sized, NoSizes}
 use Rattle.model.specs.declared.ReadStep.the-variants.{One}
 use Rattle.model.specs.declared.Wrote.the-variants.{Past, NotWritten}
 use Rattle.model.specs.Limits.{inLimits, mayBeFresh, mostDrain}
@@ -24,8 +24,9 @@ use Rattle.model.specs.Sound.{sound, underWay}
 use Rattle.model.specs.Steps.{stepped, isDone}
 use Rattle.model.specs.Given.{mostBytes}
 use Rattle.model.specs.Record.{stepsBytes, recordOf, readSizes, readStep, Written, written, writeSizes, writeStep}
+use Rattle.model.specs.Replay.{sizesLine, listing}
 use Rattle.model.specs.Drain.{candidatesOf, quiet, drained, Drain, drainOf}
-use Rattle.promises.specs.Reading.{recordable, Ending, whole, broken, Reading, ReadsAs, Read, writeRecord}
+use Rattle.promises.specs.Reading.{recordable, Ending, whole, broken, Reading, ReadsAs, Read, linesOf, writeRecord}
 use Rattle.promises.specs.Runs.{afterRun, accepted, isMove, issuesTrip, issuesReconcile, sameMove, events, free, alternate, isIssued, isAnswered}
 
 -- a step that the state refuses
@@ -213,3 +214,11 @@ pub record Kept (at : ℕ) (before : List ℕ) (after : Written) : Type 0 where
 abbrev pub WriteKeeps : Type 0
 WriteKeeps =
     ((z : Sizes) (buf : List ℕ) → Kept 0 buf (writeSizes z buf)) × ((x : Step) (buf : List ℕ) (at : ℕ) → Kept at buf (writeStep x buf at))
+
+-- THE LISTING
+
+-- It has the line of sizes, then a line for each step that is read, and then what is left or the fault: no line is missed.
+abbrev pub ListingWhole : Type 0
+ListingWhole =
+    (bs : List ℕ) (z : Sizes) (past : ℕ) (xs : List Step) (e : Ending) → readSizes bs ≡ Sized z past → Reading bs past xs e →
+    listing bs ≡ sizesLine z ++ linesOf 1 (blank z) xs e

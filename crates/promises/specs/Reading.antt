@@ -1,16 +1,20 @@
--- Whole records: what reading some bytes to the end gives, and what writing sizes and steps one behind the other leaves.
+-- Whole records: what reading some bytes to the end gives, their listing, and what writing sizes and steps one behind the other leaves.
 use mathlib.Core.Path.{_≡_}
 use mathlib.Core.List.{List, [], _∷_}
 use mathlib.Core.Bool.{Bool}
-use Prim.Native.Nat.{ℕ}
+use Prim.Native.Nat.{ℕ, suc}
 use lib.Dec.{leb}
 use Rattle.lists.specs.Places.{each}
 use Rattle.model.specs.declared.Sizes.{Sizes}
+use Rattle.model.specs.declared.System.{System}
 use Rattle.model.specs.declared.Step.{Step}
 use Rattle.model.specs.declared.Refusal.{Refusal}
 use Rattle.model.specs.declared.ReadSizes.the-variants.{Sized, NoSizes}
 use Rattle.model.specs.declared.ReadStep.the-variants.{One, End, NoStep}
 use Rattle.model.specs.declared.Wrote.the-variants.{Past, NotWritten}
+use Rattle.model.specs.Left.{outstandingLeft, messagesLeft}
+use Rattle.model.specs.Steps.{stepped}
+use Rattle.model.specs.Replay.{leftLine, recordLine, stepAnd}
 use Rattle.model.specs.Record.{mostNumber, numbersOf, readSizes, readStep, Written, writeSizes, writeStep}
 
 -- each is a number of a record
@@ -45,6 +49,14 @@ pub data Read (bs : List ℕ) : Type 0 where
   asRecord : (z : Sizes) (xs : List Step) → ReadsAs bs z xs → Read bs
   sizesRefused : (r : Refusal) → readSizes bs ≡ NoSizes r → Read bs
   stepRefused : (z : Sizes) (past : ℕ) (xs : List Step) (r : Refusal) → readSizes bs ≡ Sized z past → Reading bs past xs (broken r) → Read bs
+
+-- LISTING
+
+-- a line for each step from a state on, the first of count n, and the last line behind them
+unfoldable pub linesOf : ℕ → System → List Step → Ending → List ℕ
+linesOf n s [] whole = leftLine (outstandingLeft s) (messagesLeft s)
+linesOf n s [] (broken why) = recordLine why
+linesOf n s (x ∷ xs) e = stepAnd n x (stepped s x) (λ t. linesOf (suc n) t xs e)
 
 -- WRITING
 
