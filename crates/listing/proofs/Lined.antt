@@ -2,13 +2,14 @@
 use mathlib.Core.Path.{_≡_, ap, _∙_}
 use mathlib.Core.List.{List, _++_, append-assoc}
 use Prim.Native.Nat.{ℕ, _+_, _≤_, _<_}
-use lib.ListN.{length}
+use native.Mathlib.Omega.{arith}
+use lib.ListN.{length, take, length-append, length-take}
 use borrow.Author.Tests.{le-leb, lt-leb}
 use Rattle.numbers.specs.Groups.{Put, putTo, putBytes}
 use Rattle.model.specs.declared.Refusal.the-variants.{BufferShort}
 use Rattle.model.specs.declared.Wrote.the-variants.{Past, NotWritten}
-use Rattle.model.specs.Record.{written}
-use Rattle.model.specs.Replay.{line, linedAt}
+use Rattle.model.specs.Record.{Written, written}
+use Rattle.model.specs.Replay.{text, line, linedAt}
 use Rattle.words.proofs.Behind.{put-there}
 
 -- a line that has room is put whole
@@ -23,8 +24,14 @@ pub not-lined : (new buf : List ℕ) (at : ℕ) → length buf < at + length new
 unfolding linedAt
 not-lined new buf at short = rw (lt-leb (at + length new) (length buf) short)
 
-pub same-line : (t u buf : List ℕ) (at : ℕ) → t ≡ u → linedAt (line t) buf at ≡ linedAt (line u) buf at
-same-line t u buf at e = ap (λ (l : List ℕ). linedAt (line l) buf at) e
+-- the line that stands in the first bytes of its room: it is put, and it is short
+pub line-of : (t room buf : List ℕ) (at end : ℕ) (w : Written) → take end room ≡ t → end + 1 ≤ 192 → w ≡ linedAt (line (take end room)) buf at →
+    (w ≡ linedAt (line t) buf at) × (length (line t) ≤ 192)
+unfolding text
+line-of t room buf at end w e h f = (
+  f ∙ ap (λ (l : List ℕ). linedAt (line l) buf at) e,
+  omega (arith, length-append t (text "\n"), ap length e, length-take end room),
+)
 
 -- three pieces, put one behind the other, are one piece
 pub three-behind : (l a b c : List ℕ) → l ++ a ++ b ++ c ≡ l ++ (a ++ b ++ c)

@@ -1,4 +1,5 @@
 // The lines that replay prints, each written into a lent buffer. What they are is in model/specs/Replay.
+// Of each it is said too that it is short: whoever lends 192 bytes is not refused.
 mod left;
 
 ghost use mathlib.Core.Path.{_≡_};
@@ -20,8 +21,8 @@ use words::put_decimal;
 use words::put_name;
 use words::put_text;
 
-// More bytes than any line takes: the longest is that of sizes, with six words and six numbers of twenty digits at most.
-const LINE: usize = 192;
+// No line takes more bytes: the longest is that of sizes, with six words and six numbers of twenty digits at most.
+pub const LINE: usize = 192;
 
 // Puts a word and a number behind the first bytes of a line.
 fn add_word(line: &mut [u8], at: usize, word: &[u8], n: u64) -> usize
@@ -97,6 +98,7 @@ fn put_line(buf: &mut [u8], at: usize, line: &mut [u8], end: usize) -> Wrote
 // The line of sizes.
 pub fn put_sizes(buf: &mut [u8], at: usize, z: Sizes) -> Wrote
     ensures { λ r. ⌜ written r (now (buf .exit)) ≡ linedAt (sizesLine z) (now (buf .entry)) at ⌝ }
+    ensures short { λ _. ⌜ length (sizesLine z) ≤ 192 ⌝ }
 {
     let mut line = [0u8; LINE];
     let a = add_word(&mut line, 0, b"sites ", z.sites as u64);
@@ -111,6 +113,7 @@ pub fn put_sizes(buf: &mut [u8], at: usize, z: Sizes) -> Wrote
 // The line of a step: count, name, number given back, and the answer.
 pub fn put_step(buf: &mut [u8], at: usize, n: u64, x: Step, o: Outcome) -> Wrote
     ensures { λ r. ⌜ written r (now (buf .exit)) ≡ linedAt (stepLine n x o) (now (buf .entry)) at ⌝ }
+    ensures short { λ _. ⌜ length (stepLine n x o) ≤ 192 ⌝ }
 {
     let mut line = [0u8; LINE];
     let a = begin_step(&mut line, n, x);
@@ -121,6 +124,7 @@ pub fn put_step(buf: &mut [u8], at: usize, n: u64, x: Step, o: Outcome) -> Wrote
 // The line `left`: the number of outstanding instructions and the number of messages.
 pub fn put_left(buf: &mut [u8], at: usize, outstanding: u64, messages: u64) -> Wrote
     ensures { λ r. ⌜ written r (now (buf .exit)) ≡ linedAt (leftLine outstanding messages) (now (buf .entry)) at ⌝ }
+    ensures short { λ _. ⌜ length (leftLine outstanding messages) ≤ 192 ⌝ }
 {
     let mut line = [0u8; LINE];
     let a = add_word(&mut line, 0, b"left ", outstanding);
@@ -131,6 +135,7 @@ pub fn put_left(buf: &mut [u8], at: usize, outstanding: u64, messages: u64) -> W
 // The line `record` of a faulty record: its number and its place.
 pub fn put_record(buf: &mut [u8], at: usize, why: Refusal) -> Wrote
     ensures { λ r. ⌜ written r (now (buf .exit)) ≡ linedAt (recordLine why) (now (buf .entry)) at ⌝ }
+    ensures short { λ _. ⌜ length (recordLine why) ≤ 192 ⌝ }
 {
     let mut line = [0u8; LINE];
     let a = add_word(&mut line, 0, b"record ", why.number() as u64);

@@ -1,4 +1,4 @@
-use Rattle.listing.proofs.Lined.{same-line}
+use Rattle.listing.proofs.Lined.{line-of}
 use Rattle.model.specs.Replay.{text, word}
 use Prim.Native.Nat.{ℕ}
 use mathlib.Core.List.{List, _++_}
@@ -119,12 +119,13 @@ returns c =
     let add-word5 = c .before .before .before .before .before .before .before .before .before .before .before .before .add-word5 in
     let add-word6 = c .before .before .before .before .before .before .before .add-word6 in
     let put-line = c .before .before .before .put-line in
-    put-line .ensures ∙ same-line _ _ (args .buf .now) (args .at) (add-word6 .ensures .0 ∙
+    line-of _ (add-word6 .last .0) (args .buf .now) (args .at) (add-word6 .result) _ (add-word6 .ensures .0 ∙
     ap (λ (t : List ℕ). t ++ word " stall " (args .z .stall)) (add-word5 .ensures .0 ∙
     ap (λ (t : List ℕ). t ++ word " pend " (args .z .pend)) (add-word4 .ensures .0 ∙
     ap (λ (t : List ℕ). t ++ word " sets " (args .z .sets)) (add-word3 .ensures .0 ∙
     ap (λ (t : List ℕ). t ++ word " lines " (args .z .lines)) (add-word2 .ensures .0 ∙
     ap (λ (t : List ℕ). t ++ word " words " (args .z .words)) (add-word .ensures .0))))))
+    (omega (arith, add-word .ensures .1, add-word2 .ensures .1, add-word3 .ensures .1, add-word4 .ensures .1, add-word5 .ensures .1, add-word6 .ensures .1)) (put-line .ensures)
 
 pub put-sizes-spec : {M : Type 1} → statement M
 put-sizes-spec =

@@ -1,4 +1,5 @@
-use Rattle.listing.proofs.Lined.{same-line}
+use native.Mathlib.Omega.{arith}
+use Rattle.listing.proofs.Lined.{line-of}
 use Rattle.model.specs.Replay.{outcomeText}
 use Prim.Native.Nat.{ℕ}
 use mathlib.Core.List.{List, _++_}
@@ -34,8 +35,9 @@ returns c =
     let begin-step = c .before .before .before .before .before .before .before .before .before .before .begin-step in
     let add-outcome = c .before .before .before .before .before .before .before .add-outcome in
     let put-line = c .before .before .before .put-line in
-    put-line .ensures ∙ same-line _ _ (args .buf .now) (args .at) (add-outcome .ensures .0 ∙
+    line-of _ (add-outcome .last .0) (args .buf .now) (args .at) (add-outcome .result) _ (add-outcome .ensures .0 ∙
     ap (λ (t : List ℕ). t ++ outcomeText (args .o)) (begin-step .ensures .0))
+    (omega (arith, begin-step .ensures .1, add-outcome .ensures .1)) (put-line .ensures)
 
 pub put-step-spec : {M : Type 1} → statement M
 put-step-spec =
