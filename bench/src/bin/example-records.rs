@@ -17,6 +17,11 @@ fn sample() -> Vec<u8> {
     record([2, 2, 4, 1, 1, 1], &steps.concat())
 }
 
+/// Document 01: sizes alone, no step.
+fn sizes_alone() -> Vec<u8> {
+    record([2, 2, 4, 1, 1, 1], &[])
+}
+
 fn stall() -> Vec<u8> {
     let steps = [
         // One pend entry: the second Loadl must wait, and the third finds the stall queue full.
@@ -81,7 +86,15 @@ fn main() -> io::Result<ExitCode> {
     };
     let dir = Path::new(&dir);
     fs::create_dir_all(dir)?;
-    let all = [("sample", sample()), ("stall", stall()), ("write-back", write_back()), ("two-writers", two_writers()), ("faulty", faulty())];
+    let all = [
+        ("sample", sample()),
+        ("sizes-alone", sizes_alone()),
+        ("empty", Vec::new()),
+        ("stall", stall()),
+        ("write-back", write_back()),
+        ("two-writers", two_writers()),
+        ("faulty", faulty()),
+    ];
     for (name, bytes) in all {
         write_pair(dir, name, &bytes, &replay(&bytes))?;
     }

@@ -34,7 +34,7 @@ part-put-text-end c =
     let args = c .before .before .before .before .before .before .before .before .before .before .before .args in
     let pre = c .before .before .before .before .before .before .before .before .before .before .before .pre in
     let put-text = c .before .before .before .before .before .before .put-text in
-    let p = put-behind (10 ∷ []) (args .line .now) _ (args .end) _ (omega (arith, pre)) (put-text .ensures) in
+    let p = put-behind _ (args .line .now) _ (args .end) _ (omega (arith, pre)) (put-text .ensures) in
     omega (arith, p .0, pre, put-text .kept .0)
 
 put-text-requires-2 : tie.Need-put-text-requires-2
