@@ -107,7 +107,9 @@ fn put_last(buf: &mut [u8], at: usize, got: ReadStep, s: System) -> Wrote
     ensures { λ _. ⌜ length (lastLine got s) ≤ 192 ⌝ }
 {
     let ReadStep::NoStep(why) = got else {
-        return put_left(buf, at, outstanding_left(s), messages_left(s));
+        let outstanding = outstanding_left(s);
+        let messages = messages_left(s);
+        return put_left(buf, at, outstanding, messages);
     };
     put_record(buf, at, why)
 }

@@ -99,19 +99,15 @@ fn read_string(bytes: &[u8], before: Seen) -> Seen {
     read_steps(bytes, at, seen)
 }
 
-// The steps from an offset to the end, or to a refusal.
+// The steps from an offset to the end, or to a refusal. It comes to an end: each step read ends behind its start (`ReadOn`).
 fn read_steps(bytes: &[u8], start: usize, before: Seen) -> Seen {
-    let size = bytes.len();
     let mut seen = before;
     let mut at = start;
-    while at <= size {
+    'steps: loop {
         let got = read_step(bytes, at);
         let ReadStep::One(x, next) = got else {
             return read_end(got, seen);
         };
-        if next <= at {
-            return seen;
-        }
         seen.steps = more(seen.steps);
         seen.sum = mix_step(seen.sum, x);
         if written_again(bytes, at, next, x) {
@@ -119,7 +115,6 @@ fn read_steps(bytes: &[u8], start: usize, before: Seen) -> Seen {
         }
         at = next;
     }
-    seen
 }
 
 fn read_end(got: ReadStep, before: Seen) -> Seen {

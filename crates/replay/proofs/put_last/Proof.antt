@@ -39,9 +39,9 @@ returns : tie.Need-returns
 unfolding lastLine
 returns c =
     let args = c .before .before .before .before .before .before .before .before .args in
+    let outstanding-left = c .before .before .before .before .before .outstanding-left in
     let match = c .before .before .before .before .before .before .match in
-    let outstanding-left = c .before .before .before .before .outstanding-left in
-    let messages-left = c .before .before .before .messages-left in
+    let messages-left = c .before .before .before .before .messages-left in
     let put-left = c .before .before .put-left in
     let e = sym (no-fault (args .got) (args .s) (match .keys2)) in
     let l : leftLine (outstanding-left .result) (messages-left .result) ≡ lastLine (args .got) (args .s) = rw
