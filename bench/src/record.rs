@@ -67,6 +67,9 @@ impl Step {
     }
 }
 
+/// The bytes of document 01's sample run.
+pub const SAMPLE: [u8; 21] = [2, 2, 4, 1, 1, 1, 0, 0, 0, 7, 3, 2, 0, 3, 0, 4, 5, 6, 0, 7, 0];
+
 pub fn in_limits(sizes: [u32; 6]) -> bool {
     sizes.iter().zip(LIMITS).all(|(size, (least, most))| (least..=most).contains(size))
 }

@@ -2,7 +2,7 @@
 
 use bench::listing::{replay, write_pair};
 use bench::record::Instruction::{Commit, Loadl, Storel};
-use bench::record::{record, Instruction, Step};
+use bench::record::{record, Instruction, Step, SAMPLE};
 use std::path::Path;
 use std::process::ExitCode;
 use std::{env, fs, io};
@@ -11,15 +11,9 @@ fn issue(site: u32, tag: u32, instruction: Instruction) -> Step {
     Step::Issue { site, tag, instruction }
 }
 
-/// Document 01's 21 bytes.
-fn sample() -> Vec<u8> {
-    let steps = [&[issue(0, 7, Loadl(3))][..], &Step::trip(0)];
-    record([2, 2, 4, 1, 1, 1], &steps.concat())
-}
-
 /// Document 01: sizes alone, no step.
 fn sizes_alone() -> Vec<u8> {
-    record([2, 2, 4, 1, 1, 1], &[])
+    record([4, 4, 16, 8, 5, 8], &[])
 }
 
 fn stall() -> Vec<u8> {
@@ -87,7 +81,7 @@ fn main() -> io::Result<ExitCode> {
     let dir = Path::new(&dir);
     fs::create_dir_all(dir)?;
     let all = [
-        ("sample", sample()),
+        ("sample", SAMPLE.to_vec()),
         ("sizes-alone", sizes_alone()),
         ("empty", Vec::new()),
         ("stall", stall()),

@@ -24,14 +24,8 @@ impl Seen {
     }
 
     fn mix_refusal(&mut self, why: Refusal) {
-        match why {
-            Refusal::NoRecord(place) => {
-                self.mix(10);
-                self.mix(place as u64);
-            }
-            Refusal::SizeOutside => self.mix(12),
-            Refusal::RecordLong => self.mix(13),
-        }
+        self.mix(u64::from(why.number().number()));
+        self.mix(why.place() as u64);
     }
 
     /// Site, tag, instruction number, first and last address (the same where there is one) and value (0 where there is none).

@@ -1,2 +1,1 @@
 pub mod Lined
-pub mod Remaining

@@ -5,6 +5,7 @@ use Prim.Native.Nat.{ℕ, _+_, _≤_, _<_}
 use native.Mathlib.Omega.{arith}
 use lib.ListN.{length, take, length-append, length-take}
 use borrow.Author.Tests.{le-leb, lt-leb}
+use Rattle.listing.specs.Room.{mostLine}
 use Rattle.numbers.specs.Groups.{Put, putTo, putBytes}
 use Rattle.model.specs.declared.Refusal.the-variants.{BufferShort}
 use Rattle.model.specs.declared.Wrote.the-variants.{Past, NotWritten}
@@ -25,8 +26,8 @@ unfolding linedAt
 not-lined new buf at short = rw (lt-leb (at + length new) (length buf) short)
 
 -- the line that stands in the first bytes of its room: it is put, and it is short
-pub line-of : (t room buf : List ℕ) (at end : ℕ) (w : Written) → take end room ≡ t → end + 1 ≤ 192 → w ≡ linedAt (line (take end room)) buf at →
-    (w ≡ linedAt (line t) buf at) × (length (line t) ≤ 192)
+pub line-of : (t room buf : List ℕ) (at end : ℕ) (w : Written) → take end room ≡ t → end + 1 ≤ mostLine → w ≡ linedAt (line (take end room)) buf at →
+    (w ≡ linedAt (line t) buf at) × (length (line t) ≤ mostLine)
 unfolding text
 line-of t room buf at end w e h f = (
   f ∙ ap (λ (l : List ℕ). linedAt (line l) buf at) e,

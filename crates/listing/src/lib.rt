@@ -1,28 +1,25 @@
 // The lines that replay prints, each written into a lent buffer. What they are is in model/specs/Replay.
-// Of each it is said too that it is short: whoever lends 192 bytes is not refused.
-mod left;
-
+// Of each it is said too that it is short: whoever lends MOST_LINE bytes is not refused.
 ghost use mathlib.Core.Path.{_≡_};
 ghost use mathlib.Core.List.{_++_};
 ghost use Prim.Native.Nat.{_+_, _≤_};
 ghost use lib.ListN.{length, take};
+ghost use Rattle.listing.specs.Room.{mostLine};
 ghost use Rattle.model.specs.Record.{written};
 ghost use Rattle.model.specs.Replay.{text, decimal, nameOf, answerText, outcomeText, sizesLine, stepLine, leftLine, recordLine, linedAt};
-pub use left::messages_left;
-pub use left::outstanding_left;
 use model::Answer;
 use model::Outcome;
 use model::Refusal;
 use model::Sizes;
 use model::Step;
 use model::Wrote;
-use words::fits;
+use numbers::fits;
 use words::put_decimal;
 use words::put_name;
 use words::put_text;
 
-// No line takes more bytes: the longest is that of sizes, with six words and six numbers of twenty digits at most.
-pub const LINE: usize = 192;
+// No line takes more bytes: with twenty digits for every number that of sizes would take 160.
+pub const MOST_LINE: usize = 192;
 
 // Puts a word and a number behind the first bytes of a line.
 fn add_word(line: &mut [u8], at: usize, word: &[u8], n: u64) -> usize
@@ -98,9 +95,9 @@ fn put_line(buf: &mut [u8], at: usize, line: &mut [u8], end: usize) -> Wrote
 // The line of sizes.
 pub fn put_sizes(buf: &mut [u8], at: usize, z: Sizes) -> Wrote
     ensures { λ r. ⌜ written r (now (buf .exit)) ≡ linedAt (sizesLine z) (now (buf .entry)) at ⌝ }
-    ensures short { λ _. ⌜ length (sizesLine z) ≤ 192 ⌝ }
+    ensures short { λ _. ⌜ length (sizesLine z) ≤ mostLine ⌝ }
 {
-    let mut line = [0u8; LINE];
+    let mut line = [0u8; MOST_LINE];
     let a = add_word(&mut line, 0, b"sites ", z.sites as u64);
     let b = add_word(&mut line, a, b" words ", z.words as u64);
     let c = add_word(&mut line, b, b" lines ", z.lines as u64);
@@ -113,9 +110,9 @@ pub fn put_sizes(buf: &mut [u8], at: usize, z: Sizes) -> Wrote
 // The line of a step: count, name, number given back, and the answer.
 pub fn put_step(buf: &mut [u8], at: usize, n: u64, x: Step, o: Outcome) -> Wrote
     ensures { λ r. ⌜ written r (now (buf .exit)) ≡ linedAt (stepLine n x o) (now (buf .entry)) at ⌝ }
-    ensures short { λ _. ⌜ length (stepLine n x o) ≤ 192 ⌝ }
+    ensures short { λ _. ⌜ length (stepLine n x o) ≤ mostLine ⌝ }
 {
-    let mut line = [0u8; LINE];
+    let mut line = [0u8; MOST_LINE];
     let a = begin_step(&mut line, n, x);
     let b = add_outcome(&mut line, a, o);
     put_line(buf, at, &mut line, b)
@@ -124,9 +121,9 @@ pub fn put_step(buf: &mut [u8], at: usize, n: u64, x: Step, o: Outcome) -> Wrote
 // The line `left`: the number of outstanding instructions and the number of messages.
 pub fn put_left(buf: &mut [u8], at: usize, outstanding: u64, messages: u64) -> Wrote
     ensures { λ r. ⌜ written r (now (buf .exit)) ≡ linedAt (leftLine outstanding messages) (now (buf .entry)) at ⌝ }
-    ensures short { λ _. ⌜ length (leftLine outstanding messages) ≤ 192 ⌝ }
+    ensures short { λ _. ⌜ length (leftLine outstanding messages) ≤ mostLine ⌝ }
 {
-    let mut line = [0u8; LINE];
+    let mut line = [0u8; MOST_LINE];
     let a = add_word(&mut line, 0, b"left ", outstanding);
     let b = add_word(&mut line, a, b" ", messages);
     put_line(buf, at, &mut line, b)
@@ -135,9 +132,9 @@ pub fn put_left(buf: &mut [u8], at: usize, outstanding: u64, messages: u64) -> W
 // The line `record` of a faulty record: its number and its place.
 pub fn put_record(buf: &mut [u8], at: usize, why: Refusal) -> Wrote
     ensures { λ r. ⌜ written r (now (buf .exit)) ≡ linedAt (recordLine why) (now (buf .entry)) at ⌝ }
-    ensures short { λ _. ⌜ length (recordLine why) ≤ 192 ⌝ }
+    ensures short { λ _. ⌜ length (recordLine why) ≤ mostLine ⌝ }
 {
-    let mut line = [0u8; LINE];
+    let mut line = [0u8; MOST_LINE];
     let a = add_word(&mut line, 0, b"record ", why.number() as u64);
     let b = add_word(&mut line, a, b" at ", why.place() as u64);
     put_line(buf, at, &mut line, b)

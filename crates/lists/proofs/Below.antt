@@ -3,8 +3,8 @@ use mathlib.Core.Path.{_≡_, refl, sym, ap, _∙_}
 use mathlib.Core.Logic.{⊎-elim}
 use mathlib.Core.List.{List}
 use mathlib.Core.Bool.{Bool, _&&_, and-true, and-assoc}
-use Prim.Native.Nat.{ℕ, zero, suc, _+_, _*_, _≤_, _<_}
-use native.Mathlib.Nat.{not-suc-le-zero, le-of-suc-le-suc, eq-or-lt-of-le, mul-le-mul-right}
+use Prim.Native.Nat.{ℕ, zero, suc, _+_, _*_, _≤_, _<_, min}
+use native.Mathlib.Nat.{not-suc-le-zero, le-of-suc-le-suc, eq-or-lt-of-le, mul-le-mul-right, zero-min, min-eq-left}
 use native.Mathlib.Numerals.{add-one}
 use native.Mathlib.Omega.{arith}
 use native.Mathlib.Decide.{ℕ-discrete}
@@ -123,3 +123,12 @@ pub once-below : (n k : ℕ) → sumBelow n (λ i. ind (eqb k i)) ≤ 1
 once-below n k =
     by-test (ltb k n) (λ l. omega (arith, one-below n k (ltb→lt k n l)))
     (λ l. omega (arith, sum-most n 0 (λ i. ind (eqb k i)) (λ i h. omega (arith, ind-F (eqb k i) (of-ne k i (λ e. omega (arith, e, h, nltb→le k n l)))))))
+
+-- shares that are nothing from m on may be left out
+pub sum-past : (m n : ℕ) (g : ℕ → ℕ) → ((i : ℕ) → m ≤ i → g i ≡ 0) → sumBelow (min n m) g ≡ sumBelow n g
+unfolding sumBelow
+sum-past m zero g h = rw zero-min
+sum-past m (suc n) g h =
+    by-test (ltb n m)
+    (λ l. let e : min (suc n) m ≡ suc n = min-eq-left (ltb→lt n m l) in rw e)
+    (λ l. let e : min (suc n) m ≡ min n m = omega (arith, nltb→le n m l) in rw e (omega (arith, sum-past m n g h, h n (nltb→le n m l))))

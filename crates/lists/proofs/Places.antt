@@ -2,8 +2,8 @@
 use mathlib.Core.Path.{_≡_, refl, ap}
 use mathlib.Core.List.{List, [], _∷_, _++_}
 use mathlib.Core.Bool.{Bool, true, not, _&&_, and-false}
-use Prim.Native.Nat.{ℕ, zero, suc, _+_, _-_, _*_, _≤_, _<_}
-use native.Mathlib.Nat.{not-suc-le-zero, le-of-suc-le-suc, suc-sub-suc, sub-zero}
+use Prim.Native.Nat.{ℕ, zero, suc, _+_, _-_, _*_, _≤_, _<_, min}
+use native.Mathlib.Nat.{not-suc-le-zero, le-of-suc-le-suc, suc-sub-suc, sub-zero, zero-min, min-zero, suc-min-suc}
 use native.Mathlib.Numerals.{add-one}
 use native.Mathlib.Omega.{arith}
 use lib.Dec.{T, leb, eqb, eqb→eq, eqb-refl, leb·zero, eqb·suc-zero}
@@ -153,6 +153,20 @@ module _ {A : Type 0} where
   weigh-set f (suc n) (suc p) (x ∷ xs) y d h k =
       let e : weigh f n (set xs p y) + f (getD xs p d) ≡ weigh f n xs + f y = weigh-set f n p xs y d (le-of-suc-le-suc h) (le-of-suc-le-suc k) in
       omega arith
+
+  -- one more place is weighed
+  pub weigh-turn : (f : A → ℕ) (i : ℕ) (xs : List A) (d : A) → i < length xs → weigh f (suc i) xs ≡ weigh f i xs + f (getD xs i d)
+  unfolding weigh
+  weigh-turn f i [] d h = absurd (not-suc-le-zero h)
+  weigh-turn f zero (x ∷ xs) d h = omega arith
+  weigh-turn f (suc i) (x ∷ xs) d h = omega (arith, weigh-turn f i xs d (le-of-suc-le-suc h))
+
+  -- a count past the end weighs no more than all places
+  pub weigh-within : (f : A → ℕ) (n : ℕ) (xs : List A) → weigh f (min n (length xs)) xs ≡ weigh f n xs
+  unfolding weigh
+  weigh-within f zero xs = rw zero-min
+  weigh-within f (suc n) [] = rw min-zero
+  weigh-within f (suc n) (x ∷ xs) = rw (suc-min-suc, weigh-within f n xs)
 
   pub weigh-most : (f : A → ℕ) (c : ℕ) → ((x : A) → f x ≤ c) → (n : ℕ) (xs : List A) → weigh f n xs ≤ n * c
   unfolding weigh

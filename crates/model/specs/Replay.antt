@@ -86,6 +86,9 @@ stepLine n x o = line (decimal n ++ text " " ++ nameOf x ++ text " " ++ outcomeT
 abbrev pub leftLine : ℕ → ℕ → List ℕ
 leftLine outstanding messages = line (word "left " outstanding ++ word " " messages)
 
+abbrev pub leftOf : System → List ℕ
+leftOf s = leftLine (outstandingLeft s) (messagesLeft s)
+
 -- A faulty record ends with `record`, its number, `at`, its place.
 abbrev pub recordLine : Refusal → List ℕ
 recordLine why = line (word "record " (numberOf why) ++ word " at " (placeGiven why))
@@ -102,7 +105,7 @@ listedFrom zero bs at n s = []
 listedFrom (suc g) bs at n s =
     elim (readStep bs at) [
       | One x next ↦ stepAnd n x (stepped s x) (λ t. listedFrom g bs next (suc n) t)
-      | End ↦ leftLine (outstandingLeft s) (messagesLeft s)
+      | End ↦ leftOf s
       | NoStep why ↦ recordLine why
     ]
 

@@ -5,6 +5,9 @@ ghost use Rattle.model.specs.Limits.{within, inLimits};
 ghost use Rattle.model.specs.Given.{numberOf, placeGiven};
 ghost use Rattle.model.specs.Fresh.{noMessage, noEntry, noWaiting, noPlace, blank, freshOf};
 
+// A record is at most so many bytes long.
+pub const MOST_BYTES: usize = 65536;
+
 // A word's value.
 pub type Value = u32;
 
@@ -293,7 +296,7 @@ impl Refusal {
     {
         match self {
             Refusal::NoRecord(at) => at,
-            Refusal::RecordLong => 65536,
+            Refusal::RecordLong => MOST_BYTES,
             _ => 0,
         }
     }

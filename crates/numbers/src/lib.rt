@@ -3,6 +3,7 @@ mod samples;
 
 ghost use mathlib.Core.Path.{_≡_};
 ghost use Prim.Native.Nat.{ℕ, suc, _+_, _^_, _<_, _≤_};
+ghost use lib.Dec.{leb};
 ghost use lib.ListN.{length, drop};
 ghost use lib.Seq.{sets};
 ghost use Rattle.numbers.specs.Groups.{bytesOf, decoded, limited, readNumber, putTo, writeNumber};
@@ -60,19 +61,24 @@ pub fn number_length(n: u32) -> usize
     1 + number_length(n / 128)
 }
 
+// So many bytes have room at an offset of a buffer.
+pub fn fits(room: usize, at: usize, size: usize) -> bool
+    ensures { λ r. ⌜ r ≡ leb (at + size) room ⌝ }
+{
+    if room < size {
+        return false;
+    }
+    at <= room - size
+}
+
 // Writes a number at an offset of the buffer, and gives the offset past it; nothing is written where it has no room.
 pub fn write_number(buf: &mut [u8], at: usize, n: u32) -> usize
     ensures { λ r. ⌜ putTo r (now (buf .exit)) ≡ writeNumber n (now (buf .entry)) at ⌝ }
 {
-    let size = number_length(n);
-    let room = buf.len();
-    if room < size {
-        return at;
+    if fits(buf.len(), at, number_length(n)) {
+        return write_groups(buf, at, n);
     }
-    if room - size < at {
-        return at;
-    }
-    write_groups(buf, at, n)
+    at
 }
 
 fn write_groups(buf: &mut [u8], at: usize, n: u32) -> usize

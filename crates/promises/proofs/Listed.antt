@@ -10,10 +10,9 @@ use Rattle.model.specs.declared.Refusal.{Refusal}
 use Rattle.model.specs.declared.ReadStep.{ReadStep}
 use Rattle.model.specs.declared.ReadStep.the-variants.{One, End, NoStep}
 use Rattle.model.specs.Fresh.{blank}
-use Rattle.model.specs.Left.{outstandingLeft, messagesLeft}
 use Rattle.model.specs.Steps.{stepped}
 use Rattle.model.specs.Record.{readStep}
-use Rattle.model.specs.Replay.{sizesLine, stepLine, leftLine, recordLine, stepAnd, listedFrom, listedAt, listing}
+use Rattle.model.specs.Replay.{sizesLine, stepLine, leftOf, recordLine, stepAnd, listedFrom, listedAt, listing}
 use Rattle.promises.specs.Reading.{Ending, Reading, ended, stopped, further, linesOf}
 use Rattle.promises.specs.Promises.{ListingWhole}
 use Rattle.promises.proofs.Endings.{step-on}
@@ -25,7 +24,7 @@ module _ (bs : List ℕ) where
   unfolding listedFrom
   from-step g at n s x next e = rw (e, listedFrom)
 
-  from-end : (g at n : ℕ) (s : System) → readStep bs at ≡ End → listedFrom (suc g) bs at n s ≡ leftLine (outstandingLeft s) (messagesLeft s)
+  from-end : (g at n : ℕ) (s : System) → readStep bs at ≡ End → listedFrom (suc g) bs at n s ≡ leftOf s
   unfolding listedFrom
   from-end g at n s e = rw (e, listedFrom)
 
@@ -57,7 +56,7 @@ module _ (bs : List ℕ) where
       ap (λ (l : List ℕ). stepLine n x (stepped s x .outcome) ++ l)
       (enough (length bs - at) (suc (length bs - next)) next (suc n) (stepped s x .system) (omega (arith, step-on bs at next x e)) (omega arith))
 
-  pub listed-end : (at n : ℕ) (s : System) → readStep bs at ≡ End → listedAt bs at n s ≡ leftLine (outstandingLeft s) (messagesLeft s)
+  pub listed-end : (at n : ℕ) (s : System) → readStep bs at ≡ End → listedAt bs at n s ≡ leftOf s
   listed-end at n s e = from-end (length bs - at) at n s e
 
   pub listed-fault : (at n : ℕ) (s : System) (why : Refusal) → readStep bs at ≡ NoStep why → listedAt bs at n s ≡ recordLine why

@@ -12,9 +12,8 @@ use Rattle.model.specs.declared.Refusal.{Refusal}
 use Rattle.model.specs.declared.ReadSizes.the-variants.{Sized, NoSizes}
 use Rattle.model.specs.declared.ReadStep.the-variants.{One, End, NoStep}
 use Rattle.model.specs.declared.Wrote.the-variants.{Past, NotWritten}
-use Rattle.model.specs.Left.{outstandingLeft, messagesLeft}
 use Rattle.model.specs.Steps.{stepped}
-use Rattle.model.specs.Replay.{leftLine, recordLine, stepAnd}
+use Rattle.model.specs.Replay.{leftOf, recordLine, stepAnd}
 use Rattle.model.specs.Record.{mostNumber, numbersOf, readSizes, readStep, Written, writeSizes, writeStep}
 
 -- each is a number of a record
@@ -54,7 +53,7 @@ pub data Read (bs : List ℕ) : Type 0 where
 
 -- a line for each step from a state on, the first of count n, and the last line behind them
 unfoldable pub linesOf : ℕ → System → List Step → Ending → List ℕ
-linesOf n s [] whole = leftLine (outstandingLeft s) (messagesLeft s)
+linesOf n s [] whole = leftOf s
 linesOf n s [] (broken why) = recordLine why
 linesOf n s (x ∷ xs) e = stepAnd n x (stepped s x) (λ t. linesOf (suc n) t xs e)
 

@@ -14,6 +14,7 @@ use crate::issues::read_issue;
 use crate::rows::Row;
 use crate::rows::read_row;
 use crate::rows::write_row;
+use model::MOST_BYTES;
 use model::ReadSizes;
 use model::ReadStep;
 use model::Refusal;
@@ -22,9 +23,6 @@ use model::Step;
 use model::Wrote;
 use numbers::Got;
 use numbers::read_number;
-
-// A record is at most so many bytes long.
-pub const MOST_BYTES: usize = 65536;
 
 // The limits of the fields.
 pub const MOST_NUMBER: u32 = 4294967295;

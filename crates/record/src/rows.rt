@@ -6,7 +6,7 @@ ghost use lib.Seq.{sets};
 ghost use Rattle.numbers.specs.Groups.{putTo};
 ghost use Rattle.model.specs.Record.{bytesOfAll, readNumbers, written, writtenAt};
 ghost use Rattle.record.specs.Rows.{listed, readAs};
-use crate::MOST_BYTES;
+use model::MOST_BYTES;
 use model::Refusal;
 use model::Wrote;
 use numbers::Got;

@@ -9,6 +9,7 @@ use lib.Dec.{T, leb}
 use lib.ListN.{length, take}
 use lib.Seq.{sets, length-sets}
 use borrow.Author.Tests.{leb-true, leb-false}
+use Rattle.listing.specs.Room.{mostLine}
 use Rattle.numbers.specs.Groups.{putTo}
 use Rattle.model.specs.declared.Refusal.{Refusal}
 use Rattle.model.specs.declared.Refusal.the-variants.{BufferShort}
@@ -35,7 +36,7 @@ isPast (NotWritten why) = false
 
 module _ (new buf after : List ℕ) (at : ℕ) where
   -- a line was put
-  pub record Put (end : ℕ) : Type 0 where
+  pub record LinePut (end : ℕ) : Type 0 where
     pub text : take end after ≡ take at buf ++ new
     pub past : end ≡ at + length new
     pub room : at + length new ≤ length buf
@@ -46,7 +47,7 @@ module _ (new buf after : List ℕ) (at : ℕ) where
   unfolding linedAt
   lined-at b e = rw e
 
-  there : (end : ℕ) → leb (at + length new) (length buf) ≡ true → written (Past end) after ≡ written (Past (at + length new)) (sets buf at new) → Put end
+  there : (end : ℕ) → leb (at + length new) (length buf) ≡ true → written (Past end) after ≡ written (Past (at + length new)) (sets buf at new) → LinePut end
   unfolding lengthOf
   there end t e =
       let p : end ≡ at + length new = ap (λ (w : Written). lengthOf (w .wrote)) e in
@@ -60,10 +61,10 @@ module _ (new buf after : List ℕ) (at : ℕ) where
         same = ap length b ∙ length-sets buf at new;
       }
 
-  pub put : (end : ℕ) → written (Past end) after ≡ linedAt new buf at → Put end
+  pub put : (end : ℕ) → written (Past end) after ≡ linedAt new buf at → LinePut end
   put end e = by (leb (at + length new) (length buf)) refl
     where
-      by : (b : Bool) → leb (at + length new) (length buf) ≡ b → Put end
+      by : (b : Bool) → leb (at + length new) (length buf) ≡ b → LinePut end
       by true t = there end t (e ∙ lined-at true t)
       by false t = absurd (subst (λ (w : Written). T (isPast (w .wrote))) (e ∙ lined-at false t) tt)
 
@@ -75,7 +76,7 @@ module _ (new buf after : List ℕ) (at : ℕ) where
       by false t = (leb-false (at + length new) (length buf) t, ap (λ (w : Written). w .buffer) (e ∙ lined-at false t))
 
 -- the first line of a buffer that has room for any
-pub first-line : (new buf after : List ℕ) (w : Wrote) → length new ≤ 192 → 192 ≤ length buf → written w after ≡ linedAt new buf 0 →
+pub first-line : (new buf after : List ℕ) (w : Wrote) → length new ≤ mostLine → mostLine ≤ length buf → written w after ≡ linedAt new buf 0 →
     (take (lengthOf w) after ≡ new) × (lengthOf w ≤ length after)
 unfolding lengthOf
 first-line new buf after (Past end) short room e =

@@ -10,6 +10,7 @@ use types.Run.{OneOf, miss}
 use denote.Enum.Declared.{tagOf}
 use lib.Dec.{T}
 use lib.ListN.{length, take}
+use Rattle.listing.specs.Room.{mostLine}
 use Rattle.model.specs.declared.System.{System}
 use Rattle.model.specs.declared.Step.{Step}
 use Rattle.model.specs.declared.After.{After}
@@ -101,7 +102,7 @@ module _ (bs buf₀ : List ℕ) (from : Listed) where
         )
 
     -- a line had no room, and so there was another before it
-    pub full : (new : List ℕ) (why : Refusal) → length new ≤ 192 → 192 ≤ length buf₀ → written (NotWritten why) after ≡ linedAt new buf used →
+    pub full : (new : List ℕ) (why : Refusal) → length new ≤ mostLine → mostLine ≤ length buf₀ → written (NotWritten why) after ≡ linedAt new buf used →
         Done after (record { system = s; at = at; count = count; length = used; ended = ended })
     unfolding toList
     full new why short large w =

@@ -6,6 +6,7 @@ use mathlib.Core.Bool.{Bool, true, false}
 use Prim.Native.Nat.{ℕ, suc, _-_, _≤_, _<_}
 use native.Mathlib.Omega.{arith}
 use lib.ListN.{length, take}
+use Rattle.listing.specs.Room.{mostLine}
 use Rattle.model.specs.Replay.{listing}
 use Rattle.replay.specs.declared.Listed.{Listed}
 use Rattle.replay.specs.Going.{toList, inAll, Going, Further}
@@ -16,9 +17,9 @@ pub record Part (bs buf : List ℕ) (l : Listed) : Type 0 where
   pub whole : out ++ inAll bs buf l ≡ listing bs
   pub goes : Going l
   pub within : l .length ≤ length buf
-  pub room : 192 ≤ length buf
+  pub room : mostLine ≤ length buf
 
-pub first-part : (bs buf : List ℕ) (l : Listed) → inAll bs buf l ≡ listing bs → Going l → l .length ≤ length buf → 192 ≤ length buf → Part bs buf l
+pub first-part : (bs buf : List ℕ) (l : Listed) → inAll bs buf l ≡ listing bs → Going l → l .length ≤ length buf → mostLine ≤ length buf → Part bs buf l
 first-part bs buf l e g w r = record { out = []; whole = e; goes = g; within = w; room = r }
 
 pub next-part : (bs buf after : List ℕ) (l m : Listed) → Part bs buf l → inAll bs after m ≡ toList bs l → Going m → m .length ≤ length buf →

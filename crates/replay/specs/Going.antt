@@ -13,15 +13,14 @@ use Rattle.model.specs.declared.Sizes.{Sizes}
 use Rattle.model.specs.declared.System.{System}
 use Rattle.model.specs.Fresh.{blank, noSizes}
 use Rattle.model.specs.Sound.{sound}
-use Rattle.model.specs.Left.{outstandingLeft, messagesLeft}
-use Rattle.model.specs.Replay.{leftLine, recordLine, listedAt}
+use Rattle.model.specs.Replay.{leftOf, recordLine, listedAt}
 use Rattle.replay.specs.declared.Listed.{Listed}
 
--- the line behind the last step
+-- the line behind the last step, where none was read; where one was, it is not asked for
 unfoldable pub lastLine : ReadStep → System → List ℕ
-lastLine (One x next) s = leftLine (outstandingLeft s) (messagesLeft s)
-lastLine End s = leftLine (outstandingLeft s) (messagesLeft s)
+lastLine End s = leftOf s
 lastLine (NoStep why) s = recordLine why
+lastLine (One x next) s = leftOf s
 
 -- what is still to be listed
 unfoldable pub toList : List ℕ → Listed → List ℕ

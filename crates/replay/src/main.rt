@@ -1,14 +1,15 @@
-// Replay: a record on standard input, its listing on standard output. Each function's contract says what it puts into the buffer; main writes the buffer out.
+// Replay: a record on standard input, its listing on standard output. The contracts say what stands in the buffer; print_listing writes the buffer out.
 ghost use mathlib.Core.Path.{_≡_};
 ghost use mathlib.Core.Bool.{true, false};
 ghost use Prim.Native.Nat.{_≤_};
 ghost use lib.ListN.{length};
+ghost use Rattle.listing.specs.Room.{mostLine};
 ghost use Rattle.model.specs.Limits.{inLimits};
 ghost use Rattle.model.specs.Record.{written};
 ghost use Rattle.model.specs.Replay.{sizesLine, recordLine, linedAt, listing};
 ghost use Rattle.replay.specs.Going.{lengthOf, First, refusedSizes, begunWith, lastLine, toList, inAll, Going, Further};
-use listing::messages_left;
-use listing::outstanding_left;
+use left::messages_left;
+use left::outstanding_left;
 use listing::put_left;
 use listing::put_record;
 use listing::put_sizes;
@@ -45,7 +46,7 @@ fn length_of(wrote: Wrote) -> usize
 
 // The only line of a record whose sizes are refused. There is no system: all 0 stands in its place.
 fn refuse(buf: &mut [u8], why: Refusal) -> Listed
-    requires { ⌜ 192 ≤ length (now buf) ⌝ }
+    requires { ⌜ mostLine ≤ length (now buf) ⌝ }
     ensures { λ r. ⌜ r ≡ refusedSizes (r .length) ⌝ }
     ensures { λ r. ⌜ First (recordLine why) (now (buf .exit)) r ⌝ }
 {
@@ -71,7 +72,7 @@ fn refuse(buf: &mut [u8], why: Refusal) -> Listed
 
 // The line of sizes, and a fresh system.
 fn begin(buf: &mut [u8], z: Sizes, past: usize) -> Listed
-    requires { ⌜ (inLimits z ≡ true) × (192 ≤ length (now buf)) ⌝ }
+    requires { ⌜ (inLimits z ≡ true) × (mostLine ≤ length (now buf)) ⌝ }
     ensures { λ r. ⌜ r ≡ begunWith z past (r .length) ⌝ }
     ensures { λ r. ⌜ First (sizesLine z) (now (buf .exit)) r ⌝ }
 {
@@ -87,9 +88,9 @@ fn begin(buf: &mut [u8], z: Sizes, past: usize) -> Listed
     }
 }
 
-// Lists the sizes. A fresh system is sound (`fresh-is-sound`, promises/proofs/Demands).
+// Lists the sizes. A fresh system is sound (`run-is-sound`, promises/proofs/Demands).
 fn list_sizes(bytes: &[u8], buf: &mut [u8]) -> Listed
-    requires { ⌜ 192 ≤ length (now buf) ⌝ }
+    requires { ⌜ mostLine ≤ length (now buf) ⌝ }
     ensures { λ r. ⌜ inAll (now (bytes .entry)) (now (buf .exit)) r ≡ listing (now (bytes .entry)) ⌝ }
     ensures { λ r. ⌜ Going r ⌝ }
     ensures { λ r. ⌜ r .length ≤ length (now (buf .entry)) ⌝ }
@@ -104,7 +105,7 @@ fn list_sizes(bytes: &[u8], buf: &mut [u8]) -> Listed
 // The line behind the last step: what is left, or the fault.
 fn put_last(buf: &mut [u8], at: usize, got: ReadStep, s: System) -> Wrote
     ensures { λ r. ⌜ written r (now (buf .exit)) ≡ linedAt (lastLine got s) (now (buf .entry)) at ⌝ }
-    ensures { λ _. ⌜ length (lastLine got s) ≤ 192 ⌝ }
+    ensures { λ _. ⌜ length (lastLine got s) ≤ mostLine ⌝ }
 {
     let ReadStep::NoStep(why) = got else {
         let outstanding = outstanding_left(s);
@@ -117,7 +118,7 @@ fn put_last(buf: &mut [u8], at: usize, got: ReadStep, s: System) -> Wrote
 // Lists on, from the buffer's start, as many lines as have room. No step looks whether its system is sound: what a step of a sound one leaves is sound
 // (`sound-again`, steps/proofs/Again).
 fn list_on(bytes: &[u8], from: Listed, buf: &mut [u8]) -> Listed
-    requires { ⌜ (from .ended ≡ false) × (Going from) × (192 ≤ length (now buf)) ⌝ }
+    requires { ⌜ (from .ended ≡ false) × (Going from) × (mostLine ≤ length (now buf)) ⌝ }
     ensures { λ r. ⌜ inAll (now (bytes .entry)) (now (buf .exit)) r ≡ toList (now (bytes .entry)) from ⌝ }
     ensures { λ r. ⌜ Going r ⌝ }
     ensures { λ r. ⌜ r .length ≤ length (now (buf .entry)) ⌝ }
@@ -165,7 +166,7 @@ fn complain() {
 
 // Writes the listing out, a buffer at a time.
 fn print_listing(bytes: &[u8], buf: &mut [u8])
-    requires { ⌜ 192 ≤ length (now buf) ⌝ }
+    requires { ⌜ mostLine ≤ length (now buf) ⌝ }
 {
     let mut listed = list_sizes(bytes, buf);
     'parts: loop {
@@ -181,7 +182,7 @@ fn print_listing(bytes: &[u8], buf: &mut [u8])
     }
 }
 
-// A byte more is read than a record may have, so that a longer one is told.
+// A byte more is read than a record may have, so that a longer one shows.
 fn main() {
     let mut bytes = [0u8; 65537];
     let size = io::read_full(0, &mut bytes);

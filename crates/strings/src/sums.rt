@@ -39,14 +39,11 @@ pub(crate) fn mix_step(sum: u64, x: Step) -> u64 {
     }
 }
 
-// A refusal of the readers: 10 with its place, 12, 13.
+// A refusal's number and its place.
 pub(crate) fn mix_refusal(sum: u64, why: Refusal) -> u64 {
-    match why {
-        Refusal::NoRecord(place) => mixed(mixed(sum, 10), place as u64),
-        Refusal::SizeOutside => mixed(sum, 12),
-        Refusal::RecordLong => mixed(sum, 13),
-        _ => mixed(sum, 77),
-    }
+    let number = why.number() as u64;
+    let place = why.place() as u64;
+    mixed(mixed(sum, number), place)
 }
 
 pub(crate) fn mix_sizes(sum: u64, z: Sizes) -> u64 {

@@ -5,7 +5,7 @@ ghost use lib.ListN.{length};
 ghost use lib.Seq.{sets};
 ghost use Rattle.numbers.specs.Groups.{putTo, putBytes};
 ghost use Rattle.model.specs.Replay.{decimal};
-use crate::fits;
+use numbers::fits;
 
 // How many digits a number has.
 fn decimal_length(n: u64) -> usize

@@ -6,20 +6,10 @@ ghost use mathlib.Core.Path.{_≡_};
 ghost use Prim.Native.Nat.{_+_, _≤_};
 ghost use lib.ListN.{length};
 ghost use lib.Seq.{sets};
-ghost use lib.Dec.{leb};
 ghost use Rattle.numbers.specs.Groups.{putTo, putBytes};
 pub use decimals::put_decimal;
 pub use names::put_name;
-
-// So many bytes have room at an offset of a buffer.
-pub fn fits(room: usize, at: usize, size: usize) -> bool
-    ensures { λ r. ⌜ r ≡ leb (at + size) room ⌝ }
-{
-    if room < size {
-        return false;
-    }
-    at <= room - size
-}
+use numbers::fits;
 
 // Writes a text at an offset of the buffer, and gives the offset past it; nothing is written where it has no room.
 pub fn put_text(buf: &mut [u8], at: usize, text: &[u8]) -> usize

@@ -4,11 +4,9 @@ use crate::draws::Draws;
 use crate::good::{tight_sizes, whole_mixed, whole_single_bytes};
 use crate::walk::Walk;
 use crate::Named;
-use bench::record::{read_sizes, read_step, record, write_number, Step, LIMITS, MOST_BYTES};
+use bench::record::{read_sizes, read_step, record, write_number, Step, LIMITS, MOST_BYTES, SAMPLE};
 
-/// Document 01's sample run; step faults stand behind it, so that lines come before `record`.
-const SAMPLE: [u8; 21] = [2, 2, 4, 1, 1, 1, 0, 0, 0, 7, 3, 2, 0, 3, 0, 4, 5, 6, 0, 7, 0];
-/// Its sizes, a byte each.
+/// The sizes of document 01's sample run, a byte each. Step faults stand behind that run, so that lines come before `record`.
 const SIZES: &[u8] = SAMPLE.split_at(6).0;
 const SIZE_NAMES: [&str; 6] = ["sites", "words", "lines", "sets", "pend", "stall"];
 

@@ -2,8 +2,6 @@ use borrow.Author.Needs.{needs}
 use Rattle.model.specs.Given.{numberOf}
 use Rattle.model.proofs.Refusal.number.Statement.{statement}
 use Rattle.model.proofs.Refusal.number.Tie as tie
-use Rattle.model.proofs.Refusal.number.Reads as reads
-use Rattle.model.proofs.Refusal.number.Lts as lts
 
 enum-told : tie.Need-enum-told
 enum-told c = search needs

@@ -9,8 +9,6 @@ use borrow.Author.Needs.{needs}
 use Rattle.model.specs.Given.{placeGiven}
 use Rattle.model.proofs.Refusal.place.Statement.{statement}
 use Rattle.model.proofs.Refusal.place.Tie as tie
-use Rattle.model.proofs.Refusal.place.Reads as reads
-use Rattle.model.proofs.Refusal.place.Lts as lts
 
 enum-known-self : tie.Need-enum-known-self
 enum-known-self c = search needs

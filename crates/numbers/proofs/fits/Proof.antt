@@ -4,8 +4,8 @@ use native.Mathlib.Omega.{arith}
 use lib.Dec.{leb, leb→le, le→leb}
 use borrow.Author.Tests.{lt-leb}
 use Rattle.lists.proofs.Tests.{same-test}
-use Rattle.words.proofs.fits.Statement.{statement}
-use Rattle.words.proofs.fits.Tie as tie
+use Rattle.numbers.proofs.fits.Statement.{statement}
+use Rattle.numbers.proofs.fits.Tie as tie
 
 returns : tie.Need-returns
 returns c = let args = c .before .args in sym (lt-leb (args .at + args .size) (args .room) (omega arith))

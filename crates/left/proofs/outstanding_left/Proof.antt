@@ -8,9 +8,9 @@ use Rattle.lists.specs.Places.{sumBelow}
 use Rattle.lists.proofs.Long.{length-mapped}
 use Rattle.model.specs.Left.{outstandingAt}
 use Rattle.model.specs.Parts.{siteAt}
-use Rattle.listing.proofs.Remaining.{outstanding-within}
-use Rattle.listing.proofs.left.outstanding_left.Statement.{statement}
-use Rattle.listing.proofs.left.outstanding_left.Tie as tie
+use Rattle.left.proofs.Remaining.{outstanding-within}
+use Rattle.left.proofs.outstanding_left.Statement.{statement}
+use Rattle.left.proofs.outstanding_left.Tie as tie
 
 abbrev Inv-loop : tie.InvT-loop
 Inv-loop s sites n₀ i₀ n i = (i ≤ sites) × (sites ≤ 4) × (n ≤ 260 * i) × (n ≡ sumBelow i (λ k. outstandingAt (siteAt s k)))
@@ -43,8 +43,8 @@ element-copy-out-p c = search needs
 cast-n : tie.Need-cast-n Inv-loop μ-loop
 cast-n c = search needs
 
-owed-requires : tie.Need-owed-requires Inv-loop μ-loop
-owed-requires c κs = search needs
+not-voluntary-requires : tie.Need-not-voluntary-requires Inv-loop μ-loop
+not-voluntary-requires c κs = search needs
 
 add-n : tie.Need-add-n Inv-loop μ-loop
 add-n c = search needs
@@ -60,7 +60,7 @@ loop-less c = search needs
 
 loop-again : tie.Need-loop-again Inv-loop μ-loop
 unfolding sumBelow outstandingAt
-loop-again c = (search needs, search needs, search needs, rw add-one (omega (arith, c .owed .ensures)))
+loop-again c = (search needs, search needs, search needs, rw add-one (omega (arith, c .not-voluntary .ensures)))
 
 returns : tie.Need-returns Inv-loop μ-loop
 returns c =
@@ -84,7 +84,7 @@ outstanding-left-spec =
     mul-p
     element-copy-out-p
     cast-n
-    owed-requires
+    not-voluntary-requires
     add-n
     add-n-2
     add-i

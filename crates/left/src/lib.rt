@@ -24,7 +24,7 @@ fn within(count: u8, places: u8) -> u8
 }
 
 // The pend entries that are not voluntary.
-fn owed(p: Pends) -> u64
+fn not_voluntary(p: Pends) -> u64
     ensures { λ r. ⌜ r ≡ tally (λ (e : Entry). not (eqb (e .kind) voluntary)) (p .count) (p .entries) ⌝ }
     ensures { λ r. ⌜ r ≤ 5 ⌝ }
 {
@@ -51,14 +51,14 @@ pub fn outstanding_left(s: System) -> u64
     while i < sites {
         let waits = s.stalls[i];
         let p = s.pends[i];
-        n += waits.count as u64 + owed(p);
+        n += waits.count as u64 + not_voluntary(p);
         i += 1;
     }
     n
 }
 
 // The messages in the two queues of a site.
-fn near(out: SiteQueue, back: SiteQueue) -> u64
+fn in_site_queues(out: SiteQueue, back: SiteQueue) -> u64
     ensures { λ r. ⌜ r ≡ length (take (out .count) (out .items)) + length (take (back .count) (back .items)) ⌝ }
     ensures { λ r. ⌜ r ≤ 10 ⌝ }
 {
@@ -66,7 +66,7 @@ fn near(out: SiteQueue, back: SiteQueue) -> u64
 }
 
 // The messages in a network, or in a queue of memory.
-fn far(q: Queue) -> u64
+fn in_queue(q: Queue) -> u64
     ensures { λ r. ⌜ r ≡ length (take (q .count) (q .items)) ⌝ }
     ensures { λ r. ⌜ r ≤ 20 ⌝ }
 {
@@ -77,12 +77,12 @@ fn far(q: Queue) -> u64
 pub fn messages_left(s: System) -> u64
     ensures { λ r. ⌜ r ≡ messagesLeft s ⌝ }
 {
-    near(s.outgoing[0], s.incoming[0])
-        + near(s.outgoing[1], s.incoming[1])
-        + near(s.outgoing[2], s.incoming[2])
-        + near(s.outgoing[3], s.incoming[3])
-        + far(s.up)
-        + far(s.arrived)
-        + far(s.served)
-        + far(s.down)
+    in_site_queues(s.outgoing[0], s.incoming[0])
+        + in_site_queues(s.outgoing[1], s.incoming[1])
+        + in_site_queues(s.outgoing[2], s.incoming[2])
+        + in_site_queues(s.outgoing[3], s.incoming[3])
+        + in_queue(s.up)
+        + in_queue(s.arrived)
+        + in_queue(s.served)
+        + in_queue(s.down)
 }

@@ -3,8 +3,8 @@ use native.Mathlib.Omega.{arith}
 use lib.ListN.{length, length-take}
 use borrow.Author.Needs.{needs}
 use Rattle.lists.proofs.Long.{length-mapped}
-use Rattle.listing.proofs.left.near.Statement.{statement}
-use Rattle.listing.proofs.left.near.Tie as tie
+use Rattle.left.proofs.in_site_queues.Statement.{statement}
+use Rattle.left.proofs.in_site_queues.Tie as tie
 
 within-requires : tie.Need-within-requires
 within-requires c κs = search needs
@@ -28,7 +28,7 @@ returns c =
     let back-places : length (args .back .items) ≡ 5 = search (needs, length-mapped) in
     (simp length-take (omega (arith, c .before .within .ensures, c .within2 .ensures)), search needs)
 
-pub near-spec : {M : Type 1} → statement M
-near-spec =
+pub in-site-queues-spec : {M : Type 1} → statement M
+in-site-queues-spec =
     tie.close
     (tie.spec within-requires cast-result within-requires-2 cast-result-2 add-result returns)

@@ -13,9 +13,9 @@ use Rattle.lists.proofs.Long.{length-mapped}
 use Rattle.model.specs.Parts.{pastEntry}
 use Rattle.model.specs.Kinds.{voluntary}
 use Rattle.model.specs.declared.Entry.{Entry}
-use Rattle.listing.proofs.Remaining.{weigh-turn, weigh-within}
-use Rattle.listing.proofs.left.owed.Statement.{statement}
-use Rattle.listing.proofs.left.owed.Tie as tie
+use Rattle.lists.proofs.Places.{weigh-turn, weigh-within}
+use Rattle.left.proofs.not_voluntary.Statement.{statement}
+use Rattle.left.proofs.not_voluntary.Tie as tie
 
 abbrev Inv-loop : tie.InvT-loop
 Inv-loop p count n₀ i₀ n i = (i ≤ count) × (count ≤ 5) × (n ≤ i) × (n ≡ tally (λ (e : Entry). not (eqb (e .kind) voluntary)) i (p .entries))
@@ -68,8 +68,8 @@ returns c =
     let e : c .before .loop .i ≡ min (p .count) (length (p .entries)) = omega (arith, c .before .before .within .ensures) in
     (rw (← weigh-within, ← e) (c .before .loop .inv .3), search needs)
 
-pub owed-spec : {M : Type 1} → statement M
-owed-spec =
+pub not-voluntary-spec : {M : Type 1} → statement M
+not-voluntary-spec =
     tie.close
     (tie.spec
     Inv-loop
