@@ -25,6 +25,16 @@ pub enum Instruction {
 }
 
 impl Instruction {
+    pub fn number(self) -> u32 {
+        match self {
+            Instruction::Loadl(_) => 0,
+            Instruction::Storel(..) => 1,
+            Instruction::Commit(_) => 2,
+            Instruction::Reconcile(_) => 3,
+            Instruction::Fence(number, ..) => number,
+        }
+    }
+
     /// Its first and its last address, the same where there is one.
     pub fn addresses(self) -> (u32, u32) {
         match self {
@@ -181,11 +191,8 @@ pub fn write_step(out: &mut Vec<u8>, step: Step) {
     write_number(out, step.number());
     let fields: &[u32] = match step {
         Step::Issue { site, tag, instruction } => match instruction {
-            Instruction::Loadl(a) => &[site, 0, tag, a],
-            Instruction::Storel(a, value) => &[site, 1, tag, a, value],
-            Instruction::Commit(a) => &[site, 2, tag, a],
-            Instruction::Reconcile(a) => &[site, 3, tag, a],
-            Instruction::Fence(kind, a, b) => &[site, kind, tag, a, b],
+            Instruction::Loadl(a) | Instruction::Commit(a) | Instruction::Reconcile(a) => &[site, instruction.number(), tag, a],
+            Instruction::Storel(a, b) | Instruction::Fence(_, a, b) => &[site, instruction.number(), tag, a, b],
         },
         Step::Serve | Step::SendBack => &[],
         Step::Retry(n) | Step::Send(n) | Step::ArriveMemory(n) | Step::ArriveSite(n) | Step::Take(n) => &[n],

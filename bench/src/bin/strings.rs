@@ -30,25 +30,15 @@ impl Seen {
 
     /// Site, tag, instruction number, first and last address (the same where there is one) and value (0 where there is none).
     fn mix_step(&mut self, step: Step) {
+        self.mix(u64::from(step.number()));
         match step {
             Step::Issue { site, tag, instruction } => {
                 let (first, last) = instruction.addresses();
-                let (kind, value) = match instruction {
-                    Instruction::Loadl(_) => (0, 0),
-                    Instruction::Storel(_, v) => (1, v),
-                    Instruction::Commit(_) => (2, 0),
-                    Instruction::Reconcile(_) => (3, 0),
-                    Instruction::Fence(k, ..) => (k, 0),
-                };
-                self.mix_all(&[0, site, tag, kind, first, last, value]);
+                let value = if let Instruction::Storel(_, value) = instruction { value } else { 0 };
+                self.mix_all(&[site, tag, instruction.number(), first, last, value]);
             }
-            Step::Retry(i) => self.mix_all(&[1, i]),
-            Step::Send(i) => self.mix_all(&[2, i]),
-            Step::ArriveMemory(p) => self.mix_all(&[3, p]),
-            Step::Serve => self.mix(4),
-            Step::SendBack => self.mix(5),
-            Step::ArriveSite(p) => self.mix_all(&[6, p]),
-            Step::Take(i) => self.mix_all(&[7, i]),
+            Step::Retry(n) | Step::Send(n) | Step::ArriveMemory(n) | Step::ArriveSite(n) | Step::Take(n) => self.mix(u64::from(n)),
+            Step::Serve | Step::SendBack => {}
         }
     }
 

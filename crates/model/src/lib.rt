@@ -3,7 +3,7 @@
 ghost use mathlib.Core.Path.{_≡_};
 ghost use Rattle.model.specs.Limits.{within, inLimits};
 ghost use Rattle.model.specs.Given.{numberOf, placeGiven};
-ghost use Rattle.model.specs.Fresh.{noMessage, noEntry, noWaiting, noPlace, blank, freshOf};
+ghost use Rattle.model.specs.Fresh.{noSizes, noMessage, noEntry, noWaiting, noPlace, blank, freshOf};
 
 // A record is at most so many bytes long.
 pub const MOST_BYTES: usize = 65536;
@@ -256,6 +256,20 @@ fn in_limit(most: u8, n: u8) -> bool
 }
 
 impl Sizes {
+    // No sizes: those of the state of all 0.
+    pub fn none() -> Sizes
+        ensures { λ r. ⌜ r ≡ noSizes ⌝ }
+    {
+        Sizes {
+            sites: 0,
+            words: 0,
+            lines: 0,
+            sets: 0,
+            pend: 0,
+            stall: 0,
+        }
+    }
+
     // Each size is in the table's limits.
     pub fn fit(self) -> bool
         ensures { λ r. ⌜ r ≡ inLimits self ⌝ }
@@ -385,15 +399,7 @@ impl System {
                 system: s,
             };
         }
-        let none = Sizes {
-            sites: 0,
-            words: 0,
-            lines: 0,
-            sets: 0,
-            pend: 0,
-            stall: 0,
-        };
-        let s = System::empty(none);
+        let s = System::empty(Sizes::none());
         After {
             outcome: Outcome::Refused(Refusal::SizeOutside),
             system: s,

@@ -50,15 +50,7 @@ fn refuse(buf: &mut [u8], why: Refusal) -> Listed
     ensures { λ r. ⌜ r ≡ refusedSizes (r .length) ⌝ }
     ensures { λ r. ⌜ First (recordLine why) (now (buf .exit)) r ⌝ }
 {
-    let none = Sizes {
-        sites: 0,
-        words: 0,
-        lines: 0,
-        sets: 0,
-        pend: 0,
-        stall: 0,
-    };
-    let fresh = System::fresh(none);
+    let fresh = System::fresh(Sizes::none());
     let s = fresh.system;
     let wrote = put_record(buf, 0, why);
     Listed {

@@ -14,12 +14,15 @@ returns : tie.Need-returns
 unfolding freshOf
 returns c = simp (sym (c .before .before .fit .ensures) ∙ c .before .if1 .taken, c .empty .ensures)
 
+none-requires : tie.Need-none-requires
+none-requires c κs = search needs
+
 empty-requires-2 : tie.Need-empty-requires-2
 empty-requires-2 c κs = search needs
 
 returns-2 : tie.Need-returns-2
 unfolding freshOf
-returns-2 c = simp (sym (c .before .before .fit .ensures) ∙ c .before .if1 .left, c .empty2 .ensures)
+returns-2 c = simp (sym (c .before .before .before .fit .ensures) ∙ c .before .before .if1 .left, c .empty2 .ensures, c .before .none .ensures)
 
 pub fresh-spec : {M : Type 1} → statement M
-fresh-spec = tie.close (tie.spec fit-requires empty-requires returns empty-requires-2 returns-2)
+fresh-spec = tie.close (tie.spec fit-requires empty-requires returns none-requires empty-requires-2 returns-2)
