@@ -25,7 +25,7 @@ use Rattle.model.specs.Given.{mostBytes}
 use Rattle.model.specs.Limits.{mostDrain}
 use Rattle.model.specs.Sound.{sound}
 use Rattle.model.specs.Steps.{stepOf}
-use Rattle.model.specs.Record.{stepBytes, stepsBytes, Written, written, writeStep}
+use Rattle.model.specs.Record.{stepBytes, stepsBytes, Written, written, writeStep, isPast, pastOf}
 use Rattle.promises.proofs.Sound.{Sound}
 use Rattle.promises.proofs.Room.{the-limits}
 use Rattle.promises.proofs.Public.{step-sizes}
@@ -47,14 +47,6 @@ past-at : (x : Step) (buf : List ℕ) (at : ℕ) → at + length (stepBytes x) �
     writeStep x buf at ≡ written (Past (at + length (stepBytes x))) (sets buf at (stepBytes x))
 unfolding writeStep
 past-at x buf at m l = written-at (stepBytes x) buf at m l
-
-abbrev isPast : Wrote → Bool
-isPast (Past p) = true
-isPast (NotWritten r) = false
-
-abbrev pastOf : Wrote → ℕ
-pastOf (Past p) = p
-pastOf (NotWritten r) = 0
 
 module _ (x : Step) (buf : List ℕ) (at : ℕ) (m : at + length (stepBytes x) ≤ mostBytes) (l : at + length (stepBytes x) ≤ length buf) where
   module _ {w : Wrote} {after : List ℕ} (e : written w after ≡ writeStep x buf at) where

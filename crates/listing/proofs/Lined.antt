@@ -11,7 +11,7 @@ use Rattle.model.specs.declared.Refusal.the-variants.{BufferShort}
 use Rattle.model.specs.declared.Wrote.the-variants.{Past, NotWritten}
 use Rattle.model.specs.Record.{Written, written}
 use Rattle.model.specs.Replay.{text, line, linedAt}
-use Rattle.words.proofs.Behind.{put-there}
+use Rattle.numbers.proofs.Grouped.{put-there}
 
 -- a line that has room is put whole
 pub lined : (new buf after : List ℕ) (at past : ℕ) → at + length new ≤ length buf → putTo past after ≡ putBytes new buf at →

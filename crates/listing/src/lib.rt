@@ -31,7 +31,7 @@ fn add_word(line: &mut [u8], at: usize, word: &[u8], n: u64) -> usize
     put_decimal(line, past, n)
 }
 
-// For an answer: `answer`, site, tag, then the value or `ack`.
+// For an answer: `answer`, site, tag, then the value or `ack`. At most 70 bytes: ` answer `, three numbers of twenty digits, two spaces.
 fn add_answer(line: &mut [u8], at: usize, a: Answer) -> usize
     requires { ⌜ at + 70 ≤ length (now line) ⌝ }
     ensures { λ r. ⌜ take r (now (line .exit)) ≡ take at (now (line .entry)) ++ answerText a ⌝ }
@@ -52,7 +52,7 @@ fn add_answer(line: &mut [u8], at: usize, a: Answer) -> usize
     }
 }
 
-// A step's count and name, at the start of a line.
+// A step's count and name, at the start of a line. At most 35 bytes: twenty digits, the longest name, two spaces.
 fn begin_step(line: &mut [u8], n: u64, x: Step) -> usize
     requires { ⌜ 35 ≤ length (now line) ⌝ }
     ensures { λ r. ⌜ take r (now (line .exit)) ≡ decimal n ++ text " " ++ nameOf x ++ text " " ⌝ }
@@ -64,7 +64,7 @@ fn begin_step(line: &mut [u8], n: u64, x: Step) -> usize
     put_text(line, c, b" ")
 }
 
-// The number given back, and the answer.
+// The number given back, and the answer. At most 90 bytes: twenty digits and an answer.
 fn add_outcome(line: &mut [u8], at: usize, o: Outcome) -> usize
     requires { ⌜ at + 90 ≤ length (now line) ⌝ }
     ensures { λ r. ⌜ take r (now (line .exit)) ≡ take at (now (line .entry)) ++ outcomeText o ⌝ }

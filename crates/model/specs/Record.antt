@@ -1,6 +1,6 @@
 -- Document 01, "The record": what a record is, what reading gives, and what writing leaves.
 use mathlib.Core.List.{List, [], _∷_, _++_}
-use mathlib.Core.Bool.{_||_, cond}
+use mathlib.Core.Bool.{Bool, true, false, _||_, cond}
 use Prim.Native.Nat.{ℕ, _+_}
 use lib.Dec.{leb, eqb}
 use lib.ListN.{length, getD}
@@ -186,6 +186,15 @@ pub record Written : Type 0 where
 
 abbrev pub written : Wrote → List ℕ → Written
 written w buf = record { wrote = w; buffer = buf }
+
+-- whether a writer wrote, and the offset past what it wrote: with a refusal it is 0
+abbrev pub isPast : Wrote → Bool
+isPast (Past end) = true
+isPast (NotWritten why) = false
+
+abbrev pub pastOf : Wrote → ℕ
+pastOf (Past end) = end
+pastOf (NotWritten why) = 0
 
 -- some bytes at an offset: 13 where the record would end past its most, 11 where the buffer ends before it
 unfoldable pub writtenTo : ℕ → List ℕ → List ℕ → ℕ → Written

@@ -8,10 +8,10 @@ use native.Mathlib.Omega.{arith}
 use lib.Dec.{leb, ltb}
 use lib.ListN.{length, drop, getD, set, drop-of-length-le}
 use lib.Seq.{drop-cons, sets}
-use borrow.Author.Tests.{lt-leb, leb-true, leb-false, ltb-true, ltb-false}
+use borrow.Author.Tests.{le-leb, lt-leb, leb-true, leb-false, ltb-true, ltb-false}
 use Rattle.numbers.specs.declared.Got.{Got}
 use Rattle.numbers.specs.declared.Got.the-variants.{Number, Fault}
-use Rattle.numbers.specs.Groups.{encoded, bytesOf, Decoded, number, fault, above, decoded, limited, Put, putTo}
+use Rattle.numbers.specs.Groups.{encoded, bytesOf, Decoded, number, fault, above, decoded, limited, Put, putTo, putBytes}
 use Rattle.numbers.proofs.Codec.{never, encoded-last, encoded-more, decoded-last, decoded-long, decoded-more}
 
 -- WRITING
@@ -45,6 +45,11 @@ encoded-most (suc g) n = by (ltb n 128) refl (encoded-most g (n / 128))
 
 pub bytes-most : (n : ℕ) → length (bytesOf n) ≤ 5
 bytes-most n = encoded-most 5 n
+
+-- where there is room, the bytes are put
+pub put-there : (new buf : List ℕ) (at : ℕ) → at + length new ≤ length buf → putBytes new buf at ≡ putTo (at + length new) (sets buf at new)
+unfolding putBytes
+put-there new buf at h = rw (le-leb (at + length new) (length buf) h)
 
 -- a group, and then the others at the next offset
 pub put-more : (l : List ℕ) (at n : ℕ) (p : Put) → 128 ≤ n → n < 128 ^ 5 →

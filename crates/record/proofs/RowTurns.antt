@@ -6,10 +6,10 @@ use native.Mathlib.Numerals.{add-one}
 use native.Mathlib.Omega.{arith}
 use lib.ListN.{length, getD, set, take, drop, length-append, length-take, drop-of-length-le}
 use lib.Seq.{sets, length-sets, take-suc, take-suc-set, take-add, drop-cons, getD-take, length-take-le}
-use borrow.Author.Tests.{le-leb}
 use Rattle.lists.proofs.Stores.{sets-append}
 use Rattle.numbers.specs.declared.Got.the-variants.{Number, Fault}
 use Rattle.numbers.specs.Groups.{bytesOf, readNumber, Put, putTo, putBytes}
+use Rattle.numbers.proofs.Grouped.{put-there}
 use Rattle.numbers.proofs.Found.{fault-place}
 use Rattle.model.specs.Record.{bytesOfAll, Numbers, numbers, faultAt, consed, readNumbers}
 
@@ -41,12 +41,13 @@ bytes-less ns i n h =
 -- some bytes behind others that were put
 pub put-turn : (l done new : List ℕ) (at past : ℕ) (buf : List ℕ) (p : Put) → putTo past buf ≡ putTo (at + length done) (sets l at done) →
     p ≡ putBytes new buf past → at + length (done ++ new) ≤ length l → p ≡ putTo (at + length (done ++ new)) (sets l at (done ++ new))
-unfolding putBytes
 put-turn l done new at past buf p e f h =
     let q : past ≡ at + length done = ap (λ (x : Put). x .past) e in
     let r : buf ≡ sets l at done = ap (λ (x : Put). x .buffer) e in
     let s : at + length done + length new ≡ at + length (done ++ new) = omega (arith, length-append done new) in
-    f ∙ rw (q, r, s, length-sets l at done, le-leb (at + length (done ++ new)) (length l) h, sets-append done new l at)
+    let t : putBytes new buf past ≡ putTo (at + length done + length new) (sets (sets l at done) (at + length done) new) =
+    rw (q, r) (put-there new (sets l at done) (at + length done) (omega (arith, h, s, length-sets l at done))) in
+    f ∙ t ∙ rw (s, sets-append done new l at)
 
 -- READING
 

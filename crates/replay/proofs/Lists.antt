@@ -17,7 +17,7 @@ use Rattle.model.specs.declared.Sizes.{Sizes}
 use Rattle.model.specs.declared.ReadSizes.the-variants.{Sized, NoSizes}
 use Rattle.model.specs.declared.Wrote.{Wrote}
 use Rattle.model.specs.declared.Wrote.the-variants.{Past, NotWritten}
-use Rattle.model.specs.Record.{readSizes, Written, written}
+use Rattle.model.specs.Record.{readSizes, Written, written, isPast, pastOf}
 use Rattle.model.specs.Replay.{sizesLine, recordLine, linedAt, listing}
 use Rattle.model.specs.Fresh.{blank}
 use Rattle.model.specs.Sound.{sound}
@@ -25,14 +25,10 @@ use Rattle.lists.proofs.Tests.{T-true}
 use Rattle.promises.specs.Runs.{afterRun}
 use Rattle.promises.proofs.Readers.{sizes-read}
 use Rattle.promises.proofs.Demands.{run-is-sound}
-use Rattle.words.proofs.Behind.{put-there, put-behind}
+use Rattle.numbers.proofs.Grouped.{put-there}
+use Rattle.words.proofs.Behind.{put-behind}
 use Rattle.replay.specs.declared.Listed.{Listed}
-use Rattle.replay.specs.Going.{lengthOf, First, refusedSizes, begunWith, toList, inAll, Going}
-
--- whether a writer wrote
-abbrev isPast : Wrote → Bool
-isPast (Past end) = true
-isPast (NotWritten why) = false
+use Rattle.replay.specs.Going.{First, refusedSizes, begunWith, toList, inAll, Going}
 
 module _ (new buf after : List ℕ) (at : ℕ) where
   -- a line was put
@@ -48,9 +44,8 @@ module _ (new buf after : List ℕ) (at : ℕ) where
   lined-at b e = rw e
 
   there : (end : ℕ) → leb (at + length new) (length buf) ≡ true → written (Past end) after ≡ written (Past (at + length new)) (sets buf at new) → LinePut end
-  unfolding lengthOf
   there end t e =
-      let p : end ≡ at + length new = ap (λ (w : Written). lengthOf (w .wrote)) e in
+      let p : end ≡ at + length new = ap (λ (w : Written). pastOf (w .wrote)) e in
       let b : after ≡ sets buf at new = ap (λ (w : Written). w .buffer) e in
       let r = leb-true (at + length new) (length buf) t in
       let f : putTo end after ≡ putTo (at + length new) (sets buf at new) = rw (p, b) in
@@ -77,8 +72,7 @@ module _ (new buf after : List ℕ) (at : ℕ) where
 
 -- the first line of a buffer that has room for any
 pub first-line : (new buf after : List ℕ) (w : Wrote) → length new ≤ mostLine → mostLine ≤ length buf → written w after ≡ linedAt new buf 0 →
-    (take (lengthOf w) after ≡ new) × (lengthOf w ≤ length after)
-unfolding lengthOf
+    (take (pastOf w) after ≡ new) × (pastOf w ≤ length after)
 first-line new buf after (Past end) short room e =
     let p = put new buf after 0 end e in (p .text, omega (arith, p .past, p .room, p .same))
 first-line new buf after (NotWritten why) short room e = absurd (omega (arith, no-room new buf after 0 why e .0))

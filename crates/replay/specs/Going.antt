@@ -7,8 +7,6 @@ use Prim.Native.Nat.{ℕ, _+_, _≤_, _<_}
 use lib.ListN.{length, take}
 use Rattle.model.specs.declared.ReadStep.{ReadStep}
 use Rattle.model.specs.declared.ReadStep.the-variants.{One, End, NoStep}
-use Rattle.model.specs.declared.Wrote.{Wrote}
-use Rattle.model.specs.declared.Wrote.the-variants.{Past, NotWritten}
 use Rattle.model.specs.declared.Sizes.{Sizes}
 use Rattle.model.specs.declared.System.{System}
 use Rattle.model.specs.Fresh.{blank, noSizes}
@@ -29,11 +27,6 @@ toList bs l = elim (l .ended) [ true ↦ [] | false ↦ listedAt bs (l .at) (l .
 -- what stands in the buffer, and behind it what is still to be listed
 abbrev pub inAll : List ℕ → List ℕ → Listed → List ℕ
 inAll bs buf l = take (l .length) buf ++ toList bs l
-
--- how many bytes stand in a buffer that was written from its start
-unfoldable pub lengthOf : Wrote → ℕ
-lengthOf (Past end) = end
-lengthOf (NotWritten why) = 0
 
 -- the first line stands in the buffer
 pub record First (first buf : List ℕ) (l : Listed) : Type 0 where

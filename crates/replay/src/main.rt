@@ -5,9 +5,9 @@ ghost use Prim.Native.Nat.{_≤_};
 ghost use lib.ListN.{length};
 ghost use Rattle.listing.specs.Room.{mostLine};
 ghost use Rattle.model.specs.Limits.{inLimits};
-ghost use Rattle.model.specs.Record.{written};
+ghost use Rattle.model.specs.Record.{pastOf, written};
 ghost use Rattle.model.specs.Replay.{sizesLine, recordLine, linedAt, listing};
-ghost use Rattle.replay.specs.Going.{lengthOf, First, refusedSizes, begunWith, lastLine, toList, inAll, Going, Further};
+ghost use Rattle.replay.specs.Going.{First, refusedSizes, begunWith, lastLine, toList, inAll, Going, Further};
 use left::messages_left;
 use left::outstanding_left;
 use listing::put_left;
@@ -36,7 +36,7 @@ pub struct Listed {
 
 // How many bytes stand in a buffer that was written from its start.
 fn length_of(wrote: Wrote) -> usize
-    ensures { λ r. ⌜ r ≡ lengthOf wrote ⌝ }
+    ensures { λ r. ⌜ r ≡ pastOf wrote ⌝ }
 {
     let Wrote::Past(end) = wrote else {
         return 0;

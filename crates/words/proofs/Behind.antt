@@ -6,14 +6,9 @@ use native.Mathlib.Omega.{arith}
 use native.Mathlib.Numerals.{add-one}
 use lib.ListN.{length, take, drop, getD, set, length-append}
 use lib.Seq.{sets, sets-eq, take-at, take-suc, length-take-le}
-use borrow.Author.Tests.{le-leb}
 use Rattle.lists.proofs.Stores.{sets-append}
 use Rattle.numbers.specs.Groups.{Put, putTo, putBytes}
-
--- where there is room, the bytes are put
-pub put-there : (new buf : List ℕ) (at : ℕ) → at + length new ≤ length buf → putBytes new buf at ≡ putTo (at + length new) (sets buf at new)
-unfolding putBytes
-put-there new buf at h = rw (le-leb (at + length new) (length buf) h)
+use Rattle.numbers.proofs.Grouped.{put-there}
 
 -- where there is room: the offset past them, and the bytes up to there
 pub put-behind : (new buf after : List ℕ) (at past : ℕ) → at + length new ≤ length buf → putTo past after ≡ putBytes new buf at →

@@ -1,4 +1,3 @@
-use Rattle.replay.specs.Going.{lengthOf}
 use borrow.Author.Needs.{needs}
 use Rattle.replay.proofs.length_of.Statement.{statement}
 use Rattle.replay.proofs.length_of.Tie as tie
@@ -10,11 +9,9 @@ enum-told : tie.Need-enum-told
 enum-told c = search needs
 
 returns : tie.Need-returns
-unfolding lengthOf
 returns c = search needs
 
 returns-2 : tie.Need-returns-2
-unfolding lengthOf
 returns-2 c = search needs
 
 pub length-of-spec : {M : Type 1} → statement M
