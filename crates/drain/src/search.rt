@@ -6,8 +6,8 @@ ghost use Rattle.drain.specs.Stock.{standing};
 ghost use Rattle.drain.specs.Search.{widthOf, firstBy};
 use crate::stock::Stock;
 use crate::stock::stands;
+use codes::kinds::move_of;
 use model::Step;
-use record::fields::move_of;
 
 // The first step that may be taken, if there is one.
 pub enum Found {

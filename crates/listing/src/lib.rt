@@ -7,6 +7,8 @@ ghost use lib.ListN.{length, take};
 ghost use Rattle.listing.specs.Room.{mostLine};
 ghost use Rattle.model.specs.Record.{written};
 ghost use Rattle.model.specs.Replay.{text, decimal, nameOf, answerText, outcomeText, sizesLine, stepLine, leftLine, recordLine, linedAt};
+use codes::refusals::number;
+use codes::refusals::place;
 use model::Answer;
 use model::Outcome;
 use model::Refusal;
@@ -75,7 +77,7 @@ fn add_outcome(line: &mut [u8], at: usize, o: Outcome) -> usize
             let past = put_decimal(line, at, 0);
             add_answer(line, past, a)
         }
-        Outcome::Refused(why) => put_decimal(line, at, why.number() as u64),
+        Outcome::Refused(why) => put_decimal(line, at, number(why) as u64),
     }
 }
 
@@ -135,7 +137,7 @@ pub fn put_record(buf: &mut [u8], at: usize, why: Refusal) -> Wrote
     ensures short { λ _. ⌜ length (recordLine why) ≤ mostLine ⌝ }
 {
     let mut line = [0u8; MOST_LINE];
-    let a = add_word(&mut line, 0, b"record ", why.number() as u64);
-    let b = add_word(&mut line, a, b" at ", why.place() as u64);
+    let a = add_word(&mut line, 0, b"record ", number(why) as u64);
+    let b = add_word(&mut line, a, b" at ", place(why) as u64);
     put_line(buf, at, &mut line, b)
 }

@@ -2,7 +2,6 @@
 // What they mean is in specs/. An array has the largest size that a system may have; a count or a size says how much is in use.
 ghost use mathlib.Core.Path.{_≡_};
 ghost use Rattle.model.specs.Limits.{within, inLimits};
-ghost use Rattle.model.specs.Given.{numberOf, placeGiven};
 ghost use Rattle.model.specs.Fresh.{noSizes, noMessage, noEntry, noWaiting, noPlace, blank, freshOf};
 
 // A record is at most so many bytes long.
@@ -280,39 +279,6 @@ impl Sizes {
             & in_limit(System::MOST_SETS, self.sets)
             & in_limit(System::MOST_PEND, self.pend)
             & in_limit(System::MOST_STALL, self.stall)
-    }
-}
-
-impl Refusal {
-    // Document 01's number.
-    pub fn number(self) -> u32
-        ensures { λ r. ⌜ r ≡ numberOf self ⌝ }
-    {
-        match self {
-            Refusal::NotSound => 1,
-            Refusal::NoSuchSite => 2,
-            Refusal::AddressPastLast => 4,
-            Refusal::TagOutstanding => 5,
-            Refusal::MayNotIssue => 6,
-            Refusal::StallFull => 7,
-            Refusal::NothingThere => 8,
-            Refusal::MustStillWait => 9,
-            Refusal::NoRecord(_) => 10,
-            Refusal::BufferShort => 11,
-            Refusal::SizeOutside => 12,
-            Refusal::RecordLong => 13,
-        }
-    }
-
-    // The place that goes with it.
-    pub fn place(self) -> usize
-        ensures { λ r. ⌜ r ≡ placeGiven self ⌝ }
-    {
-        match self {
-            Refusal::NoRecord(at) => at,
-            Refusal::RecordLong => MOST_BYTES,
-            _ => 0,
-        }
     }
 }
 

@@ -2,18 +2,17 @@
 ghost use mathlib.Core.Path.{_≡_};
 ghost use Rattle.model.specs.Record.{readMove, readSizes, readStep, written, writeSizes, writeStep};
 
-pub mod fields;
 mod issues;
 mod rows;
 
-use crate::fields::move_of;
-use crate::fields::numbers_of;
-use crate::fields::sizes_of;
-use crate::fields::sizes_row;
 use crate::issues::read_issue;
-use crate::rows::Row;
 use crate::rows::read_row;
 use crate::rows::write_row;
+use codes::kinds::move_of;
+use codes::rows::Row;
+use codes::rows::numbers_of;
+use codes::sizes::sizes_of;
+use codes::sizes::sizes_row;
 use model::MOST_BYTES;
 use model::ReadSizes;
 use model::ReadStep;

@@ -6,6 +6,7 @@ ghost use lib.Seq.{sets};
 ghost use Rattle.numbers.specs.Groups.{putTo};
 ghost use Rattle.model.specs.Record.{bytesOfAll, readNumbers, written, writtenAt};
 ghost use Rattle.record.specs.Rows.{listed, readAs};
+use codes::rows::Row;
 use model::MOST_BYTES;
 use model::Refusal;
 use model::Wrote;
@@ -13,12 +14,6 @@ use numbers::Got;
 use numbers::number_length;
 use numbers::read_number;
 use numbers::write_number;
-
-// The first so many of six numbers.
-pub struct Row {
-    pub numbers: [u32; 6],
-    pub count: usize,
-}
 
 // Numbers read, with the offset past them; or, where one is broken, its place.
 pub struct RowRead {

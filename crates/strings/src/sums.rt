@@ -1,4 +1,6 @@
 // Counts and sums that wrap at 4,294,967,296.
+use codes::refusals::number;
+use codes::refusals::place;
 use model::Refusal;
 use model::Sizes;
 use model::Step;
@@ -41,9 +43,7 @@ pub(crate) fn mix_step(sum: u64, x: Step) -> u64 {
 
 // A refusal's number and its place.
 pub(crate) fn mix_refusal(sum: u64, why: Refusal) -> u64 {
-    let number = why.number() as u64;
-    let place = why.place() as u64;
-    mixed(mixed(sum, number), place)
+    mixed(mixed(sum, number(why) as u64), place(why) as u64)
 }
 
 pub(crate) fn mix_sizes(sum: u64, z: Sizes) -> u64 {
