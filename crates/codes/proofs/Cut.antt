@@ -1,12 +1,13 @@
 -- What is cut at 255 is within a limit exactly where it was.
-use mathlib.Core.Path.{_≡_}
+use mathlib.Core.Path.{_≡_, _∙_, ap, sym}
 use mathlib.Core.List.{List}
-use mathlib.Core.Bool.{Bool, _&&_}
+use mathlib.Core.Bool.{Bool, false, _&&_}
 use Prim.Native.Nat.{ℕ, _≤_, _<_, min}
 use native.Mathlib.Omega.{arith}
 use lib.Dec.{T, leb, leb→le, le→leb}
 use lib.ListN.{getD}
-use Rattle.lists.proofs.Tests.{and-l, and-r, same-test, both}
+use Rattle.lists.proofs.Tests.{and-l, and-r, same-test, both, by-test, F-false}
+use Rattle.model.specs.declared.Sizes.{Sizes}
 use Rattle.model.specs.Limits.{within, inLimits}
 use Rattle.model.specs.Record.{sizesOf}
 use Rattle.codes.specs.Capped.{capped}
@@ -26,7 +27,7 @@ cut-within most n l =
     high t = leb→le (min n 255) most (and-r (leb 1 (min n 255)) (leb (min n 255) most) t)
 
 module _ (ns : List ℕ) where
-  pub limits-same : inLimits (capped ns) ≡ inLimits (sizesOf ns)
+  limits-same : inLimits (capped ns) ≡ inLimits (sizesOf ns)
   unfolding inLimits
   limits-same =
       rw (
@@ -38,7 +39,7 @@ module _ (ns : List ℕ) where
         cut-within 8 (getD ns 5 0) (omega arith),
       )
 
-  pub sizes-same : T (inLimits (sizesOf ns)) → capped ns ≡ sizesOf ns
+  sizes-same : T (inLimits (sizesOf ns)) → capped ns ≡ sizesOf ns
   unfolding inLimits
   sizes-same t =
       let w : ℕ → ℕ → Bool = λ most i. within most (getD ns i 0) in
@@ -57,3 +58,9 @@ module _ (ns : List ℕ) where
     where
       cut : (most i : ℕ) → most < 255 → T (within most (getD ns i 0)) → min (getD ns i 0) 255 ≡ getD ns i 0
       cut most i l t = omega (arith, leb→le (getD ns i 0) most (and-r (leb 1 (getD ns i 0)) (leb (getD ns i 0) most) t))
+
+  -- what tells sizes outside the limits no further does not tell sizes from what is cut
+  pub cut-alike : {A : Type 0} (f : Sizes → A) (outside : A) → ((z : Sizes) → inLimits z ≡ false → f z ≡ outside) → f (capped ns) ≡ f (sizesOf ns)
+  cut-alike f outside out =
+      by-test (inLimits (sizesOf ns)) (λ t. ap f (sizes-same t))
+      (λ t. let e = F-false (inLimits (sizesOf ns)) t in out (capped ns) (limits-same ∙ e) ∙ sym (out (sizesOf ns) e))

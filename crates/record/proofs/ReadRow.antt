@@ -10,13 +10,15 @@ use lib.Seq.{getD-take, take-all}
 use Rattle.lists.proofs.Tests.{by-test, T-true, F-false, and-l, and-r, same-test, both}
 use Rattle.model.specs.declared.Sizes.{Sizes}
 use Rattle.model.specs.declared.Step.the-variants.{Issue}
+use Rattle.model.specs.declared.Refusal.the-variants.{SizeOutside}
+use Rattle.model.specs.declared.ReadSizes.the-variants.{NoSizes}
 use Rattle.model.specs.declared.ReadStep.{ReadStep}
 use Rattle.model.specs.declared.ReadStep.the-variants.{One}
 use Rattle.model.specs.Kinds.{storel, reconcile}
 use Rattle.model.specs.Limits.{within, inLimits}
 use Rattle.model.specs.Record.{numbers, issueLimits, instructionOf, issueFrom, sizesOf, sizedBy, sizesFrom}
 use Rattle.codes.specs.Capped.{capped}
-use Rattle.codes.proofs.Cut.{limits-same, sizes-same}
+use Rattle.codes.proofs.Cut.{cut-alike}
 
 -- AN ISSUE
 
@@ -56,10 +58,7 @@ issue-read i k n ns past e =
 
 -- SIZES
 
-module _ (ns : List ℕ) where
-  pub sizes-read : (past : ℕ) → length ns ≡ 6 → sizesFrom (numbers (take 6 ns) past) ≡ sizedBy (capped ns) past
-  unfolding sizesFrom
-  sizes-read past e =
-      rw (take-all 6 ns (omega arith))
-      (by-test (inLimits (sizesOf ns)) (λ t. ap (λ (z : Sizes). sizedBy z past) (sym (sizes-same ns t)))
-      (λ t. rw (limits-same ns, F-false (inLimits (sizesOf ns)) t)))
+pub sizes-read : (ns : List ℕ) (past : ℕ) → length ns ≡ 6 → sizesFrom (numbers (take 6 ns) past) ≡ sizedBy (capped ns) past
+unfolding sizesFrom
+sizes-read ns past e =
+    rw (take-all 6 ns (omega arith)) (sym (cut-alike ns (λ z. sizedBy z past) (NoSizes SizeOutside) (λ z out. rw out)))
