@@ -1,0 +1,61 @@
+use mathlib.Core.Bool.{true}
+use mathlib.Core.Logic.{⊎-elim}
+use mathlib.Core.Path.{_≡_, sym, _∙_}
+use Prim.Native.Nat.{_+_, _-_, _≤_}
+use native.Mathlib.Omega.{arith}
+use lib.ListN.{length}
+use borrow.Author.Needs.{needs}
+use Rattle.model.specs.Sound.{sound}
+use Rattle.promises.proofs.Endings.{step-on}
+use Rattle.steps.proofs.Again.{sound-again}
+use Rattle.pace.proofs.take_steps.Statement.{statement}
+use Rattle.pace.proofs.take_steps.Tie as tie
+
+abbrev Inv-steps : tie.InvT-steps
+Inv-steps bytes start t₀ accepted₀ at₀ t accepted at = (sound t ≡ true) × (accepted ≤ at)
+
+abbrev μ-steps : tie.MeasureT-steps
+μ-steps bytes start t₀ accepted₀ at₀ t accepted at = length bytes + 1 - at
+
+steps-holds : tie.Need-steps-holds Inv-steps μ-steps
+steps-holds c = ((c .before .pre), omega arith)
+
+read-step-requires : tie.Need-read-step-requires Inv-steps μ-steps
+read-step-requires c κs = search needs
+
+enum-known-got : tie.Need-enum-known-got Inv-steps μ-steps
+enum-known-got c = search needs
+
+step-sound-requires : tie.Need-step-sound-requires Inv-steps μ-steps
+step-sound-requires c κs = c .before .before .before .before .steps .inv .0
+
+is-done-requires : tie.Need-is-done-requires Inv-steps μ-steps
+is-done-requires c κs = search needs
+
+add-accepted : tie.Need-add-accepted Inv-steps μ-steps
+add-accepted c = let got = (c .before .before .before .before .got) in let steps = (c .before .before .before .before .before .before .before .steps) in let on = step-on (c .before .before .before .before .before .before .before .before .before .args .bytes .now) (steps .at) (got .given .0 .1 .0) (got .given .0 .0) (sym (c .before .before .before .before .before .before .read-step .ensures) ∙ got .given .1) in omega (arith, on, steps .inv .1)
+
+steps-less : tie.Need-steps-less Inv-steps μ-steps
+steps-less c = let got = (c .before .before .before .before .before .got) in let steps = (c .before .before .before .before .before .before .before .before .steps) in let on = step-on (c .before .before .before .before .before .before .before .before .before .before .args .bytes .now) (steps .at) (got .given .0 .1 .0) (got .given .0 .0) (sym (c .before .before .before .before .before .before .before .read-step .ensures) ∙ got .given .1) in omega (arith, on)
+
+steps-again : tie.Need-steps-again Inv-steps μ-steps
+steps-again c = let got = (c .before .before .before .before .before .got) in let steps = (c .before .before .before .before .before .before .before .before .steps) in let on = step-on (c .before .before .before .before .before .before .before .before .before .before .args .bytes .now) (steps .at) (got .given .0 .1 .0) (got .given .0 .0) (sym (c .before .before .before .before .before .before .before .read-step .ensures) ∙ got .given .1) in (rw (c .before .before .before .step-sound .ensures) (sound-again (steps .t) (got .given .0 .0) (steps .inv .0)), ⊎-elim (λ w. omega (arith, on, steps .inv .1, w)) (λ w. omega (arith, on, steps .inv .1, w)) (c .before .if1 .came))
+
+returns : tie.Need-returns Inv-steps μ-steps
+returns c = search needs
+
+pub take-steps-spec : {M : Type 1} → statement M
+take-steps-spec =
+    tie.close
+    (tie.spec
+    Inv-steps
+    μ-steps
+    steps-holds
+    read-step-requires
+    enum-known-got
+    step-sound-requires
+    is-done-requires
+    add-accepted
+    steps-less
+    steps-again
+    returns)
