@@ -2,7 +2,7 @@
 
 use std::ops::{Deref, DerefMut};
 
-#[derive(Clone, Debug)]
+#[derive(Clone, Copy, Debug)]
 pub struct List<T, const N: usize> {
     len: usize,
     items: [T; N],
@@ -27,6 +27,16 @@ impl<T: Copy, const N: usize> List<T, N> {
 impl<T: Copy + Default, const N: usize> Default for List<T, N> {
     fn default() -> Self {
         List { len: 0, items: [T::default(); N] }
+    }
+}
+
+impl<T: Copy + Default, const N: usize> FromIterator<T> for List<T, N> {
+    fn from_iter<I: IntoIterator<Item = T>>(items: I) -> Self {
+        let mut list = List::default();
+        for item in items {
+            list.push(item);
+        }
+        list
     }
 }
 

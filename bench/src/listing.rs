@@ -4,9 +4,8 @@ use crate::given::{Outcome, Returned};
 use crate::model::System;
 use crate::record::{read_sizes, read_step, Refusal, Step};
 use crate::rows::Row;
-use std::fmt::Arguments;
 use std::fs;
-use std::io::{self, Write};
+use std::io;
 use std::path::Path;
 
 /// The steps' names, in the order of their numbers.
@@ -21,25 +20,29 @@ pub enum Met {
 
 /// What the program replay prints.
 pub fn replay(bytes: &[u8]) -> Vec<u8> {
-    replay_seen(bytes, &mut |_| ())
+    let mut out = Vec::new();
+    replay_onto(&mut out, bytes, &mut |_| ());
+    out
 }
 
-/// "A faulty record ends with `record`, its number, `at`, its place, instead of `left`."
-pub fn replay_seen(bytes: &[u8], seen: &mut impl FnMut(Met)) -> Vec<u8> {
-    let mut out = Vec::new();
-    if let Err(why) = run(bytes, &mut out, seen) {
-        line(&mut out, format_args!("record {} at {}", why.number().number(), why.place()));
+/// The same, put behind what is there. "A faulty record ends with `record`, its number, `at`, its place, instead of `left`."
+pub fn replay_onto(out: &mut Vec<u8>, bytes: &[u8], seen: &mut impl FnMut(Met)) {
+    if let Err(why) = run(bytes, out, seen) {
+        numbered(out, "record ", why.number().number() as usize);
+        numbered(out, " at ", why.place());
+        text(out, "\n");
         seen(Met::Fault(why));
     }
-    out
 }
 
 /// "It prints one line of sizes, one line per step, and `left` with the number of outstanding instructions and the number of messages."
 fn run(bytes: &[u8], out: &mut Vec<u8>, seen: &mut impl FnMut(Met)) -> Result<(), Refusal> {
     let (sizes, mut at) = read_sizes(bytes)?;
     let mut system = System::fresh(sizes).ok_or(Refusal::SizeOutside)?;
-    let [sites, words, lines, sets, pend, stall] = sizes;
-    line(out, format_args!("sites {sites} words {words} lines {lines} sets {sets} pend {pend} stall {stall}"));
+    for (name, size) in ["sites ", " words ", " lines ", " sets ", " pend ", " stall "].into_iter().zip(sizes) {
+        numbered(out, name, size as usize);
+    }
+    text(out, "\n");
     let mut count = 0;
     while let Some((step, next)) = read_step(bytes, at)? {
         let outcome = system.step_seen(step, &mut |row| seen(Met::Row(step, row)));
@@ -48,26 +51,47 @@ fn run(bytes: &[u8], out: &mut Vec<u8>, seen: &mut impl FnMut(Met)) -> Result<()
         seen(Met::Gave(step, outcome));
         at = next;
     }
-    line(out, format_args!("left {} {}", system.outstanding(), system.messages()));
+    numbered(out, "left ", system.outstanding());
+    numbered(out, " ", system.messages());
+    text(out, "\n");
     Ok(())
 }
 
 /// "count from 1, step name, number given back, and for an answer: `answer`, site, tag, then the value or `ack`"
-fn step_line(out: &mut Vec<u8>, count: u32, step: Step, outcome: Outcome) {
-    let name = STEP_NAMES[step.number() as usize];
-    let number = outcome.number();
-    let Outcome::Done(Some(answer)) = outcome else {
-        return line(out, format_args!("{count} {name} {number}"));
-    };
-    let (site, tag) = (answer.site, answer.tag);
-    match answer.returned {
-        Returned::Value(value) => line(out, format_args!("{count} {name} {number} answer {site} {tag} {value}")),
-        Returned::Ack => line(out, format_args!("{count} {name} {number} answer {site} {tag} ack")),
+fn step_line(out: &mut Vec<u8>, count: usize, step: Step, outcome: Outcome) {
+    numbered(out, "", count);
+    text(out, " ");
+    text(out, STEP_NAMES[step.number() as usize]);
+    numbered(out, " ", outcome.number() as usize);
+    if let Outcome::Done(Some(answer)) = outcome {
+        numbered(out, " answer ", answer.site as usize);
+        numbered(out, " ", answer.tag as usize);
+        match answer.returned {
+            Returned::Value(value) => numbered(out, " ", value as usize),
+            Returned::Ack => text(out, " ack"),
+        }
     }
+    text(out, "\n");
 }
 
-fn line(out: &mut Vec<u8>, text: Arguments) {
-    writeln!(out, "{text}").expect("a Vec takes every byte");
+fn text(out: &mut Vec<u8>, text: &str) {
+    out.extend_from_slice(text.as_bytes());
+}
+
+/// A text, and a number behind it: in decimal, without leading zeros.
+fn numbered(out: &mut Vec<u8>, before: &str, mut number: usize) {
+    text(out, before);
+    let mut digits = [0; 20];
+    let mut first = digits.len();
+    loop {
+        first -= 1;
+        digits[first] = b'0' + (number % 10) as u8;
+        number /= 10;
+        if number == 0 {
+            break;
+        }
+    }
+    out.extend_from_slice(&digits[first..]);
 }
 
 /// The files NAME.record and NAME.listing.

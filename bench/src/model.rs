@@ -8,17 +8,17 @@ use crate::record::{in_limits, Instruction, Step};
 use crate::rows::Row;
 use crate::site::{Access, Kind, Message, Reply, Request, Site, Sizes, Words, MOST_LINES, MOST_MESSAGES, MOST_SITES};
 
-#[derive(Clone, Debug, PartialEq)]
+#[derive(Clone, Copy, Debug, PartialEq)]
 pub struct System {
-    sizes: Sizes,
-    memory: [Words; MOST_LINES],
-    sites: [Site; MOST_SITES],
-    up: List<Message<Request>, MOST_MESSAGES>,
+    pub sizes: Sizes,
+    pub memory: [Words; MOST_LINES],
+    pub sites: [Site; MOST_SITES],
+    pub up: List<Message<Request>, MOST_MESSAGES>,
     /// Memory's incoming queue.
-    requests: List<Message<Request>, MOST_MESSAGES>,
+    pub requests: List<Message<Request>, MOST_MESSAGES>,
     /// Memory's outgoing queue.
-    replies: List<Message<Reply>, MOST_MESSAGES>,
-    down: List<Message<Reply>, MOST_MESSAGES>,
+    pub replies: List<Message<Reply>, MOST_MESSAGES>,
+    pub down: List<Message<Reply>, MOST_MESSAGES>,
 }
 
 type Given = Result<Option<Answer>, Number>;
@@ -118,7 +118,7 @@ impl System {
 
     /// 2, 8, 9. "the head of the stall queue is handled as if issued now; if it must still wait, it stays and the step is refused": figure 4-4 is
     /// not looked at again.
-    fn retry(&mut self, site: u32, seen: &mut impl FnMut(Row)) -> Given {
+    pub(crate) fn retry(&mut self, site: u32, seen: &mut impl FnMut(Row)) -> Given {
         let sizes = self.sizes;
         let site = self.site(site)?;
         let head = *site.stall.first().ok_or(Number::NothingThere)?;
@@ -132,14 +132,14 @@ impl System {
     }
 
     /// "head of the outgoing queue enters the up network"
-    fn send(&mut self, site: u32) -> Result<Row, Number> {
+    pub(crate) fn send(&mut self, site: u32) -> Result<Row, Number> {
         let request = self.site(site)?.outgoing.remove(0).ok_or(Number::NothingThere)?;
         self.up.push(request);
         Ok(Row::Send)
     }
 
     /// "up network to memory's incoming queue"
-    fn arrive_memory(&mut self, position: u32) -> Result<Row, Number> {
+    pub(crate) fn arrive_memory(&mut self, position: u32) -> Result<Row, Number> {
         let request = self.up.remove(position as usize).ok_or(Number::NothingThere)?;
         self.requests.push(request);
         Ok(if position == 0 { Row::ArriveMemoryFirst } else { Row::ArriveMemoryLater })
@@ -147,7 +147,7 @@ impl System {
 
     /// "A fetch is answered with the line's words. A write-back stores the words marked Dirty and no others, and is answered with a bare
     /// acknowledgement."
-    fn serve(&mut self) -> Result<Row, Number> {
+    pub(crate) fn serve(&mut self) -> Result<Row, Number> {
         let Message { site, line, body } = self.requests.remove(0).ok_or(Number::NothingThere)?;
         let words = &mut self.memory[usize::from(line)];
         let (row, body) = match body {
@@ -162,21 +162,21 @@ impl System {
     }
 
     /// "head of memory's outgoing queue enters the down network"
-    fn send_back(&mut self) -> Result<Row, Number> {
+    pub(crate) fn send_back(&mut self) -> Result<Row, Number> {
         let reply = self.replies.remove(0).ok_or(Number::NothingThere)?;
         self.down.push(reply);
         Ok(Row::SendBack)
     }
 
     /// "down network to the incoming queue of the message's site"
-    fn arrive_site(&mut self, position: u32) -> Result<Row, Number> {
+    pub(crate) fn arrive_site(&mut self, position: u32) -> Result<Row, Number> {
         let reply = self.down.remove(position as usize).ok_or(Number::NothingThere)?;
         self.sites[usize::from(reply.site)].incoming.push(reply);
         Ok(if position == 0 { Row::ArriveSiteFirst } else { Row::ArriveSiteLater })
     }
 
     /// "the site handles the head of its incoming queue"
-    fn take(&mut self, site: u32, seen: &mut impl FnMut(Row)) -> Given {
+    pub(crate) fn take(&mut self, site: u32, seen: &mut impl FnMut(Row)) -> Given {
         let sizes = self.sizes;
         let site = self.site(site)?;
         let reply = site.incoming.remove(0).ok_or(Number::NothingThere)?;

@@ -178,16 +178,16 @@ fn read_issue(cursor: &mut Cursor) -> Result<Step, Refusal> {
 }
 
 /// Appends a number in its shortest form.
-pub fn write_number(out: &mut Vec<u8>, mut n: u32) {
+pub fn write_number(out: &mut impl Extend<u8>, mut n: u32) {
     while n >= 0x80 {
-        out.push(n as u8 | 0x80);
+        out.extend([n as u8 | 0x80]);
         n >>= 7;
     }
-    out.push(n as u8);
+    out.extend([n as u8]);
 }
 
 /// Appends a step: its number, then its fields.
-pub fn write_step(out: &mut Vec<u8>, step: Step) {
+pub fn write_step(out: &mut impl Extend<u8>, step: Step) {
     write_number(out, step.number());
     let fields: &[u32] = match step {
         Step::Issue { site, tag, instruction } => match instruction {

@@ -159,7 +159,7 @@ pub enum Reply {
     Acknowledgement,
 }
 
-#[derive(Clone, Debug, Default, PartialEq)]
+#[derive(Clone, Copy, Debug, Default, PartialEq)]
 pub struct Site {
     pub number: u8,
     /// "a cache with one place per set"

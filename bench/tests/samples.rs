@@ -47,7 +47,7 @@ fn away(site: u32, tag: u32, instruction: Instruction, last: Outcome) -> Vec<Row
 fn left_after(sizes: [u32; 6], parts: &[Vec<Row>]) -> (usize, usize) {
     let mut system = System::fresh(sizes).expect("sizes in their limits");
     for (index, (step, expected)) in parts.iter().flatten().enumerate() {
-        let before = system.clone();
+        let before = system;
         let outcome = system.step(*step);
         assert_eq!(outcome, *expected, "row {index}: {step:?}");
         assert!(matches!(outcome, Outcome::Done(_)) || system == before, "row {index}: a refusal changed the state");

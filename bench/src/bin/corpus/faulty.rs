@@ -1,9 +1,10 @@
 //! The faulty records: each fault of sizes, of lengths and of every field of a step, and walks that were damaged.
 
-use crate::draws::Draws;
-use crate::good::{tight_sizes, whole_mixed, whole_single_bytes};
+use crate::good::{whole_mixed, whole_single_bytes};
 use crate::walk::Walk;
 use crate::Named;
+use bench::chooser::tight_sizes;
+use bench::draws::Draws;
 use bench::record::{read_sizes, read_step, record, write_number, Step, LIMITS, MOST_BYTES, SAMPLE};
 
 /// The sizes of document 01's sample run, a byte each. Step faults stand behind that run, so that lines come before `record`.

@@ -1,8 +1,9 @@
 //! The good records: walks over all kinds of sizes, and records of the most bytes.
 
-use crate::draws::Draws;
 use crate::walk::Walk;
 use crate::Named;
+use bench::chooser::{sizes_drawn, tight_sizes};
+use bench::draws::Draws;
 use bench::record::{record, write_step, Step, LIMITS, MOST_BYTES};
 
 const WALKS: usize = 170;
@@ -29,16 +30,6 @@ pub fn good_records(draws: &mut Draws) -> Vec<Named> {
 
 fn name(what: &str, sizes: [u32; 6]) -> String {
     format!("{what}-{}", sizes.map(|size| size.to_string()).join("-"))
-}
-
-pub fn sizes_drawn(draws: &mut Draws) -> [u32; 6] {
-    LIMITS.map(|limits| draws.between(limits))
-}
-
-/// Few sets, pend entries and stall entries: here lines displace each other and instructions wait.
-pub fn tight_sizes(draws: &mut Draws) -> [u32; 6] {
-    let [sites, words, lines, ..] = sizes_drawn(draws);
-    [sites, words, lines, 1 + draws.below(2), 1 + draws.below(3), 1 + draws.below(3)]
 }
 
 /// All at their least, all at their most, one unlike the others, each size at each of its values, and drawn ones.

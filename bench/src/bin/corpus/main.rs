@@ -1,14 +1,13 @@
 //! `corpus DIR` writes records and their listings into DIR, always the same, and prints the page docs/CORPUS.md.
 
-mod draws;
 mod faulty;
 mod good;
 mod page;
 mod tally;
 mod walk;
 
-use bench::listing::{replay_seen, write_pair};
-use draws::Draws;
+use bench::draws::Draws;
+use bench::listing::{replay_onto, write_pair};
 use std::io::Result;
 use std::path::Path;
 use std::process::ExitCode;
@@ -42,7 +41,8 @@ fn write_all(dir: &Path) -> Result<Tally> {
     let mut tally = Tally::new();
     for (index, (what, bytes)) in records.iter().enumerate() {
         tally.begin(bytes);
-        let listing = replay_seen(bytes, &mut |met| tally.note(met));
+        let mut listing = Vec::new();
+        replay_onto(&mut listing, bytes, &mut |met| tally.note(met));
         write_pair(dir, &format!("{:03}-{what}", index + 1), bytes, &listing)?;
     }
     Ok(tally)
