@@ -1,10 +1,13 @@
-//! `speed` prints how long the proved library takes and how long the independent model does, measured in one run.
+//! `speed FOLDER` prints how long the proved library, and the proved programs in FOLDER, take and how long the independent model does, measured in one run.
 
+mod programs;
 mod rows;
 mod side;
 mod work;
 
+use programs::Programs;
 use rows::{rows, Row};
+use std::path::PathBuf;
 use std::process::ExitCode;
 use work::Work;
 
@@ -12,6 +15,7 @@ use work::Work;
 const ROUNDS: usize = 15;
 
 fn main() -> ExitCode {
+    let folder = PathBuf::from(std::env::args().nth(1).expect("the folder of the programs"));
     let work = Work::made();
     let mut rows = rows(&work);
     for _ in 0..ROUNDS {
@@ -22,9 +26,19 @@ fn main() -> ExitCode {
             }
         }
     }
+    let programs = Programs::timed(&folder, &work).expect("the programs run");
     println!("{}, best of {ROUNDS} rounds, in ns", work.described());
-    println!("{:<26}{:>12}{:>14}{:>8}   for each", "", "library", "independent", "ratio");
-    rows.iter().for_each(|row| println!("{}", line(row)));
+    println!("{:<26}{:>12}{:>14}{:>8}   for each", "", "proved", "independent", "ratio");
+    let read = by_library(&rows, "read a step");
+    for row in &rows {
+        let proved = match row.name {
+            "read and step" => programs.read_and_step,
+            "inner step" | "inner step, state copied" => programs.read_and_step - read,
+            "replay with its listing" => programs.replay,
+            name => by_library(&rows, name),
+        };
+        println!("{}", line(row, proved));
+    }
     ExitCode::SUCCESS
 }
 
@@ -40,12 +54,13 @@ fn same_after_a_round(row: &mut Row) -> bool {
     left.iter().all(|one| *one == left[0])
 }
 
-/// A dash stands where the library exports nothing to be measured yet.
-fn line(row: &Row) -> String {
+/// What the library takes for one of the row.
+fn by_library(rows: &[Row], name: &str) -> f64 {
+    let row = rows.iter().find(|row| row.name == name).expect("a row of the table");
+    row.library.as_ref().map_or(f64::NAN, |side| side.best() / row.times as f64)
+}
+
+fn line(row: &Row, proved: f64) -> String {
     let independent = row.independent.best() / row.times as f64;
-    let (library, ratio) = match &row.library {
-        Some(side) => (format!("{:.1}", side.best() / row.times as f64), format!("{:.2}", side.best() / row.independent.best())),
-        None => ("-".into(), "-".into()),
-    };
-    format!("{:<26}{library:>12}{independent:>14.1}{ratio:>8}   {}", row.name, row.each)
+    format!("{:<26}{proved:>12.1}{independent:>14.1}{:>8.2}   {}", row.name, proved / independent, row.each)
 }

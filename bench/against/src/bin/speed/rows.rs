@@ -17,6 +17,7 @@ pub struct Row<'a> {
     pub each: &'static str,
     /// How often it is done in one round.
     pub times: usize,
+    /// The library's side, where a call does it.
     pub library: Option<Side<'a>>,
     pub independent: Side<'a>,
 }
@@ -24,8 +25,7 @@ pub struct Row<'a> {
 pub fn rows(work: &Work) -> Vec<Row<'_>> {
     let (steps, in_record) = (work.steps.len(), work.recorded().len());
     let row = |name, each, times, library, independent| Row { name, each, times, library, independent };
-    // The rows without a library side wait for what the library does not export yet: the step of a state that is known to be sound, where it
-    // stands and by value, the same behind the reader, and the whole replay.
+    // The last four have no library side: what they time of the proved code is in the programs.
     vec![
         row("public step", "step of the walk", steps, Some(public_step(work)), checked_step(work)),
         row("soundness check", "state of the walk", steps, Some(soundness(work, |state| call::sound(state) == 1)), soundness(work, sound)),
