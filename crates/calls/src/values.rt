@@ -2,19 +2,20 @@
 ghost use mathlib.Core.Path.{_≡_};
 ghost use Rattle.model.specs.declared.Outcome.the-variants.{Refused};
 ghost use Rattle.model.specs.Given.{given};
-ghost use Rattle.calls.specs.Calls.{flag, soundCall, freshCall, unnamedWhy, stepCall, drainedBy, drainCall};
+ghost use Rattle.calls.specs.Calls.{flag, soundCall, steppedBy, numbered, freshCall, stepCall, drainedBy, drainCall};
 use crate::DrainGiven;
 use codes::kinds::Named;
 use codes::kinds::step_of;
 use codes::refusals::given_of;
 use codes::sizes::sizes_of;
 use drain::drain;
+use model::After;
 use model::Given;
 use model::Outcome;
 use model::Refusal;
 use model::System;
 use sound::is_sound;
-use steps::step;
+use steps::step_sound;
 
 // What is given back, and the system after it.
 pub struct Stepped {
@@ -43,14 +44,26 @@ pub fn sound_call(s: System) -> u32
     as_number(is_sound(s))
 }
 
-// Why numbers that name no step are refused.
-fn unnamed_given(sound: bool, place: usize) -> Given
-    ensures { λ r. ⌜ r ≡ given (Refused (unnamedWhy sound place)) ⌝ }
+// A system is copied last, once its outcome has become numbers: a copy that no match follows is one that the compiler saves.
+fn in_numbers(a: After) -> Stepped
+    ensures { λ r. ⌜ r ≡ numbered a ⌝ }
 {
-    if sound {
-        return given_of(Outcome::Refused(Refusal::NoRecord(place)));
+    let outcome = a.outcome;
+    let given = given_of(outcome);
+    let system = a.system;
+    Stepped {
+        given: given,
+        system: system,
     }
-    given_of(Outcome::Refused(Refusal::NotSound))
+}
+
+fn refused(why: Refusal, s: System) -> Stepped
+    ensures { λ r. ⌜ r ≡ steppedBy (given (Refused why)) s ⌝ }
+{
+    Stepped {
+        given: given_of(Outcome::Refused(why)),
+        system: s,
+    }
 }
 
 pub fn fresh_call(sites: u32, words: u32, lines: u32, sets: u32, pend: u32, stall: u32) -> Stepped
@@ -58,14 +71,10 @@ pub fn fresh_call(sites: u32, words: u32, lines: u32, sets: u32, pend: u32, stal
 {
     let z = sizes_of([sites, words, lines, sets, pend, stall]);
     let a = System::fresh(z);
-    let outcome = a.outcome;
-    let system = a.system;
-    Stepped {
-        given: given_of(outcome),
-        system: system,
-    }
+    in_numbers(a)
 }
 
+// It looks at soundness itself and takes a step of a sound state, so that the system is not handed through one more function.
 pub fn step_call(
     s: System,
     kind: u32,
@@ -78,20 +87,15 @@ pub fn step_call(
     ensures { λ r. ⌜ r ≡ stepCall s kind site instruction tag first second ⌝ }
 {
     let named = step_of(kind, site, instruction, tag, first, second);
+    if !is_sound(s) {
+        return refused(Refusal::NotSound, s);
+    }
     match named {
         Named::Known(x) => {
-            let a = step(s, x);
-            let outcome = a.outcome;
-            let system = a.system;
-            Stepped {
-                given: given_of(outcome),
-                system: system,
-            }
+            let a = step_sound(s, x);
+            in_numbers(a)
         }
-        Named::Unknown(place) => Stepped {
-            given: unnamed_given(is_sound(s), place),
-            system: s,
-        },
+        Named::Unknown(place) => refused(Refusal::NoRecord(place), s),
     }
 }
 
@@ -100,7 +104,6 @@ pub fn drain_call(s: System, budget: usize, buf: &mut [u8]) -> DrainedTo
 {
     let d = drain(s, budget, buf);
     let outcome = d.outcome;
-    let system = d.system;
     let g = given_of(outcome);
     let given = DrainGiven {
         number: g.number,
@@ -108,6 +111,7 @@ pub fn drain_call(s: System, budget: usize, buf: &mut [u8]) -> DrainedTo
         count: d.count,
         length: d.length,
     };
+    let system = d.system;
     DrainedTo {
         given: given,
         system: system,

@@ -64,13 +64,14 @@ fn put_step(buf: &mut [u8], at: usize, x: Step) -> usize
 pub fn drain(s: System, budget: usize, buf: &mut [u8]) -> Drained
     ensures { λ r. ⌜ drainGives r (now (buf .exit)) ≡ drainOf s budget (now (buf .entry)) ⌝ }
 {
-    if !is_sound(s) {
-        return refuse(Refusal::NotSound, s);
+    // One name from the start: a state that is used under two is copied for each.
+    let mut t = s;
+    if !is_sound(t) {
+        return refuse(Refusal::NotSound, t);
     }
     if buf.len() < room_for(budget) {
-        return refuse(Refusal::BufferShort, s);
+        return refuse(Refusal::BufferShort, t);
     }
-    let mut t = s;
     let mut count: usize = 0;
     let mut length: usize = 0;
     let mut quiet = false;

@@ -23,7 +23,7 @@ same-length c = search needs
 
 returns : tie.Need-returns
 unfolding drainCall
-returns c = rw (c .before .given-of .ensures, c .as-number .ensures) (ap drainResult (c .before .before .before .before .before .drain .ensures))
+returns c = rw (c .before .before .given-of .ensures, c .before .as-number .ensures) (ap drainResult (c .before .before .before .before .before .drain .ensures))
 
 pub drain-call-spec : {M : Type 1} → statement M
 drain-call-spec =

@@ -9,7 +9,7 @@ use Rattle.calls.proofs.values.fresh_call.Statement.{statement}
 use Rattle.calls.proofs.values.fresh_call.Tie as tie
 use Rattle.calls.proofs.values.fresh_call.Reads as reads
 use Rattle.calls.proofs.values.fresh_call.Lts as lts
-use Rattle.codes.proofs.refusals.given_of.Reads as given-of-reads
+use Rattle.calls.proofs.values.in_numbers.Reads as in-numbers-reads
 use Rattle.codes.proofs.sizes.sizes_of.Reads as sizes-of-reads
 use Rattle.model.proofs.System.fresh.Reads as fresh-reads
 
@@ -19,12 +19,12 @@ sizes-of-requires c κs = search needs
 fresh-requires : tie.Need-fresh-requires
 fresh-requires c κs = search needs
 
-given-of-requires : tie.Need-given-of-requires
-given-of-requires c κs = search needs
+in-numbers-requires : tie.Need-in-numbers-requires
+in-numbers-requires c κs = search needs
 
 returns : tie.Need-returns
 unfolding freshCall freshOf
-returns c = let a = (c .before .before .before .before .args) in let ns = a .sites ∷ a .words ∷ a .lines ∷ a .sets ∷ a .pend ∷ a .stall ∷ [] in rw (c .given-of .ensures) (ap numbered (c .before .before .fresh .ensures ∙ rw (c .before .before .before .sizes-of .ensures) (cut-alike ns freshOf (refused SizeOutside (blank noSizes)) (λ z out. rw out))))
+returns c = let a = (c .before .before .before .args) in let ns = a .sites ∷ a .words ∷ a .lines ∷ a .sets ∷ a .pend ∷ a .stall ∷ [] in c .in-numbers .ensures ∙ ap numbered (c .before .fresh .ensures ∙ rw (c .before .before .sizes-of .ensures) (cut-alike ns freshOf (refused SizeOutside (blank noSizes)) (λ z out. rw out)))
 
 pub fresh-call-spec : {M : Type 1} → statement M
-fresh-call-spec = tie.close (tie.spec sizes-of-requires fresh-requires given-of-requires returns)
+fresh-call-spec = tie.close (tie.spec sizes-of-requires fresh-requires in-numbers-requires returns)
