@@ -1,4 +1,4 @@
-// The words of a line and their marks: four places, the first n of them in use, the others 0.
+// The words of a line and their marks: four places, the first n of them in use, the others 0. Where all four are, nothing is left to test.
 ghost use mathlib.Core.Path.{_≡_};
 ghost use mathlib.Core.Bool.{cond};
 ghost use Rattle.model.specs.Sets.{wordsFit, marksFit};
@@ -7,6 +7,9 @@ use model::Value;
 pub(crate) fn words_fit(n: u8, values: [Value; 4]) -> bool
     ensures { λ r. ⌜ r ≡ wordsFit n values ⌝ }
 {
+    if n == 4 {
+        return true;
+    }
     (n <= 4)
         & ((0 < n) | (values[0] == 0))
         & ((1 < n) | (values[1] == 0))
@@ -17,6 +20,9 @@ pub(crate) fn words_fit(n: u8, values: [Value; 4]) -> bool
 pub(crate) fn marks_fit(n: u8, marks: [bool; 4]) -> bool
     ensures { λ r. ⌜ r ≡ marksFit n marks ⌝ }
 {
+    if n == 4 {
+        return true;
+    }
     (n <= 4)
         & ((0 < n) | !marks[0])
         & ((1 < n) | !marks[1])
