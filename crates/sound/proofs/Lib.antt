@@ -1,3 +1,4 @@
+pub mod Halves
 pub mod Tags
 pub mod Once
 pub mod Table

@@ -1,6 +1,5 @@
 // Pend entries and the stall queue: kinds, lines and words in range, what a kind does not use 0, and a place that is not in use holds 0.
 ghost use mathlib.Core.Path.{_≡_};
-ghost use mathlib.Core.Bool.{cond};
 ghost use Rattle.model.specs.Sound.{freeEntry, freeWaiting, entryFits, waitingFits, pendsFit, stallsFit};
 use crate::words::riding;
 use crate::words::words_fit;
@@ -36,25 +35,23 @@ fn entry_fits(z: Sizes, e: Entry) -> bool
         & (!(k == 4) | ((e.tag == 0) & (e.word == 0)))
 }
 
-// A place of the pend entries.
-fn entry_place(z: Sizes, used: bool, e: Entry) -> bool
-    ensures { λ r. ⌜ r ≡ cond used (entryFits z e) (freeEntry e) ⌝ }
-{
-    if used {
-        return entry_fits(z, e);
-    }
-    free_entry(e)
-}
-
 pub(crate) fn pends_fit(z: Sizes, p: Pends) -> bool
     ensures { λ r. ⌜ r ≡ pendsFit z (p .count) (p .entries) ⌝ }
 {
     let n = p.count;
-    let mut ok = (n <= z.pend) & (n <= 5);
+    if 5 < n {
+        return false;
+    }
+    let mut ok = n <= z.pend;
     let mut k: u8 = 0;
-    while k < 5 {
+    while k < n {
         let e = p.entries[k as usize];
-        ok = ok & entry_place(z, k < n, e);
+        ok = ok & entry_fits(z, e);
+        k += 1;
+    }
+    while k < 5 {
+        let free = p.entries[k as usize];
+        ok = ok & free_entry(free);
         k += 1;
     }
     ok
@@ -73,25 +70,23 @@ fn waiting_fits(z: Sizes, w: Waiting) -> bool
     (w.kind < 4) & (w.line < z.lines) & (w.word < z.words) & ((w.kind == 1) | (w.value == 0))
 }
 
-// A place of the stall queue.
-fn waiting_place(z: Sizes, used: bool, w: Waiting) -> bool
-    ensures { λ r. ⌜ r ≡ cond used (waitingFits z w) (freeWaiting w) ⌝ }
-{
-    if used {
-        return waiting_fits(z, w);
-    }
-    free_waiting(w)
-}
-
 pub(crate) fn stalls_fit(z: Sizes, t: Stalls) -> bool
     ensures { λ r. ⌜ r ≡ stallsFit z (t .count) (t .waiting) ⌝ }
 {
     let n = t.count;
-    let mut ok = (n <= z.stall) & (n <= 8);
+    if 8 < n {
+        return false;
+    }
+    let mut ok = n <= z.stall;
     let mut k: u8 = 0;
-    while k < 8 {
+    while k < n {
         let w = t.waiting[k as usize];
-        ok = ok & waiting_place(z, k < n, w);
+        ok = ok & waiting_fits(z, w);
+        k += 1;
+    }
+    while k < 8 {
+        let free = t.waiting[k as usize];
+        ok = ok & free_waiting(free);
         k += 1;
     }
     ok

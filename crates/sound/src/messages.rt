@@ -1,6 +1,5 @@
 // The messages of a queue: kinds, sites and lines in range, what a kind does not use 0, and a place that is not in use holds 0.
 ghost use mathlib.Core.Path.{_≡_};
-ghost use mathlib.Core.Bool.{cond};
 ghost use Prim.Native.Nat.{_*_};
 ghost use Rattle.model.specs.Sound.{freeMessage, carries, messageFits, ofSite, siteQueueFits, netFits};
 ghost use Rattle.sound.specs.Sides.{sideOf};
@@ -47,14 +46,11 @@ fn message_fits(z: Sizes, replies: bool, m: Message) -> bool
     of_side(replies, m.kind) & (m.site < z.sites) & (m.line < z.lines) & carried(z, m)
 }
 
-// A place of a queue of site i.
-fn near_place(z: Sizes, replies: bool, i: u8, used: bool, m: Message) -> bool
-    ensures { λ r. ⌜ r ≡ cond used (ofSite z (sideOf replies) i m) (freeMessage m) ⌝ }
+// A message of site i.
+fn message_of(z: Sizes, replies: bool, i: u8, m: Message) -> bool
+    ensures { λ r. ⌜ r ≡ ofSite z (sideOf replies) i m ⌝ }
 {
-    if used {
-        return message_fits(z, replies, m) & (m.site == i);
-    }
-    free_message(m)
+    message_fits(z, replies, m) & (m.site == i)
 }
 
 // A queue of site i.
@@ -62,24 +58,22 @@ pub(crate) fn near_fits(z: Sizes, replies: bool, i: u8, q: SiteQueue) -> bool
     ensures { λ r. ⌜ r ≡ siteQueueFits z (sideOf replies) i q ⌝ }
 {
     let n = q.count;
-    let mut ok = (n <= z.pend) & (n <= 5);
+    if 5 < n {
+        return false;
+    }
+    let mut ok = n <= z.pend;
     let mut k: u8 = 0;
-    while k < 5 {
+    while k < n {
         let m = q.items[k as usize];
-        ok = ok & near_place(z, replies, i, k < n, m);
+        ok = ok & message_of(z, replies, i, m);
+        k += 1;
+    }
+    while k < 5 {
+        let free = q.items[k as usize];
+        ok = ok & free_message(free);
         k += 1;
     }
     ok
-}
-
-// A place of a network or a queue of memory.
-fn far_place(z: Sizes, replies: bool, used: bool, m: Message) -> bool
-    ensures { λ r. ⌜ r ≡ cond used (messageFits z (sideOf replies) m) (freeMessage m) ⌝ }
-{
-    if used {
-        return message_fits(z, replies, m);
-    }
-    free_message(m)
 }
 
 // The most messages under way: a pend entry has one.
@@ -94,11 +88,19 @@ pub(crate) fn far_fits(z: Sizes, replies: bool, q: Queue) -> bool
     ensures { λ r. ⌜ r ≡ netFits z (sideOf replies) q ⌝ }
 {
     let n = q.count;
-    let mut ok = (n as u16 <= most_far(z)) & (n <= 20);
+    if 20 < n {
+        return false;
+    }
+    let mut ok = n as u16 <= most_far(z);
     let mut k: u8 = 0;
-    while k < 20 {
+    while k < n {
         let m = q.items[k as usize];
-        ok = ok & far_place(z, replies, k < n, m);
+        ok = ok & message_fits(z, replies, m);
+        k += 1;
+    }
+    while k < 20 {
+        let free = q.items[k as usize];
+        ok = ok & free_message(free);
         k += 1;
     }
     ok
