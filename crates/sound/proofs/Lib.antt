@@ -1,4 +1,5 @@
 pub mod Halves
+pub mod Site
 pub mod Tags
 pub mod Once
 pub mod Table

@@ -1,12 +1,9 @@
 // The cache: each line in its set, and a place that is not in use holds 0.
 ghost use mathlib.Core.Path.{_≡_};
-ghost use mathlib.Core.Bool.{_&&_};
-ghost use lib.Dec.{eqb};
-ghost use lib.ListN.{length, getD};
-ghost use Rattle.lists.specs.Places.{allBelow};
-ghost use Rattle.model.specs.Parts.{pastSet};
+ghost use mathlib.Core.Bool.{cond};
 ghost use Rattle.model.specs.Sets.{freePlace, placeFits, setFits, freeSet};
 ghost use Rattle.model.specs.Sound.{cacheFits};
+ghost use Rattle.sound.specs.Sites.{cacheFree};
 use crate::words::marks_fit;
 use crate::words::words_fit;
 use model::Cache;
@@ -52,29 +49,25 @@ fn free_set(t: CacheSet) -> bool
     free_place(t.low)
 }
 
-// Each cached line is in its set.
-pub(crate) fn cache_fits(z: Sizes, c: Cache) -> bool
-    ensures { λ r. ⌜ r ≡ cacheFits z (c .sets) ⌝ }
+// Set k of a site of the system, or of one past the sizes.
+fn set_place(z: Sizes, used: bool, k: u8, t: CacheSet) -> bool
+    ensures { λ r. ⌜ r ≡ cond used (setFits z k t) (freeSet t) ⌝ }
 {
-    let mut ok = true;
-    let mut k: u8 = 0;
-    while k < 8 {
-        let t = c.sets[k as usize];
-        ok = ok & set_fits(z, k, t);
-        k += 1;
+    if used {
+        return set_fits(z, k, t);
     }
-    ok
+    free_set(t)
 }
 
-// No line is cached.
-pub(crate) fn cache_free(c: Cache) -> bool
-    ensures { λ r. ⌜ r ≡ (eqb (length (c .sets)) 8 && allBelow 8 (λ k. freeSet (getD (c .sets) k pastSet))) ⌝ }
+// Each cached line is in its set; at a site past the sizes no line is cached.
+pub(crate) fn cache_fits(z: Sizes, used: bool, c: Cache) -> bool
+    ensures { λ r. ⌜ r ≡ cond used (cacheFits z (c .sets)) (cacheFree (c .sets)) ⌝ }
 {
     let mut ok = true;
     let mut k: u8 = 0;
     while k < 8 {
         let t = c.sets[k as usize];
-        ok = ok & free_set(t);
+        ok = ok & set_place(z, used, k, t);
         k += 1;
     }
     ok

@@ -1,7 +1,7 @@
 // What stands at a site fits: its cache, its pend entries, its stall queue and its two queues. A site past the sizes holds nothing.
 ghost use mathlib.Core.Path.{_≡_};
 ghost use Rattle.model.specs.Parts.{siteFrom};
-ghost use Rattle.model.specs.Sound.{ownFits, siteFits, freeSite, siteOk, sitesFit};
+ghost use Rattle.model.specs.Sound.{siteOk, sitesFit};
 ghost use Rattle.sound.specs.Sites.{systemOf};
 use crate::differ::cached_apart;
 use crate::differ::lines_differ;
@@ -10,63 +10,13 @@ use crate::entries::pends_fit;
 use crate::entries::stalls_fit;
 use crate::messages::near_fits;
 use crate::places::cache_fits;
-use crate::places::cache_free;
 use model::Cache;
 use model::Pends;
 use model::SiteQueue;
 use model::Sizes;
 use model::Stalls;
 
-// What a site holds beside its queues.
-fn own_fits(z: Sizes, cache: Cache, pends: Pends, stalls: Stalls) -> bool
-    ensures { λ r. ⌜ r ≡ ownFits z (cache .sets) (pends .count) (pends .entries) (stalls .count) (stalls .waiting) ⌝ }
-{
-    let each = cache_fits(z, cache) & pends_fit(z, pends) & stalls_fit(z, stalls);
-    if !each {
-        return false;
-    }
-    cached_apart(z, cache, pends) & lines_differ(pends) & tags_differ(pends, stalls)
-}
-
-// Site i of a system.
-fn site_fits(
-    z: Sizes,
-    i: u8,
-    cache: Cache,
-    pends: Pends,
-    stalls: Stalls,
-    outgoing: SiteQueue,
-    incoming: SiteQueue,
-) -> bool
-    ensures { λ r. ⌜ r ≡ siteFits z i (siteFrom cache pends stalls outgoing incoming) ⌝ }
-{
-    own_fits(z, cache, pends, stalls)
-        & near_fits(z, false, i, outgoing)
-        & near_fits(z, true, i, incoming)
-}
-
-// A site past the sizes.
-fn free_site(
-    z: Sizes,
-    cache: Cache,
-    pends: Pends,
-    stalls: Stalls,
-    outgoing: SiteQueue,
-    incoming: SiteQueue,
-) -> bool
-    ensures { λ r. ⌜ r ≡ freeSite (siteFrom cache pends stalls outgoing incoming) ⌝ }
-{
-    cache_free(cache)
-        & (pends.count == 0)
-        & pends_fit(z, pends)
-        & (stalls.count == 0)
-        & stalls_fit(z, stalls)
-        & (outgoing.count == 0)
-        & near_fits(z, false, 0, outgoing)
-        & (incoming.count == 0)
-        & near_fits(z, true, 0, incoming)
-}
-
+// Site i of a system, or one past the sizes. Of that one nothing may be in use.
 fn site_ok(
     z: Sizes,
     i: u8,
@@ -78,10 +28,22 @@ fn site_ok(
 ) -> bool
     ensures { λ r. ⌜ r ≡ siteOk z i (siteFrom cache pends stalls outgoing incoming) ⌝ }
 {
-    if i < z.sites {
-        return site_fits(z, i, cache, pends, stalls, outgoing, incoming);
+    let used = i < z.sites;
+    let each = cache_fits(z, used, cache)
+        & pends_fit(z, pends)
+        & stalls_fit(z, stalls)
+        & near_fits(z, false, i, outgoing)
+        & near_fits(z, true, i, incoming);
+    if !each {
+        return false;
     }
-    free_site(z, cache, pends, stalls, outgoing, incoming)
+    if !used {
+        return (pends.count == 0)
+            & (stalls.count == 0)
+            & (outgoing.count == 0)
+            & (incoming.count == 0);
+    }
+    cached_apart(z, cache, pends) & lines_differ(pends) & tags_differ(pends, stalls)
 }
 
 // The four sites.

@@ -1,5 +1,5 @@
-use mathlib.Core.Path.{_≡_, sym}
-use mathlib.Core.Bool.{Bool}
+use mathlib.Core.Path.{_≡_, refl, sym, _∙_}
+use mathlib.Core.Bool.{Bool, true, false, _&&_, cond}
 use Prim.Native.Nat.{ℕ, _≤_, _-_}
 use native.Mathlib.Omega.{arith}
 use borrow.Author.Needs.{needs}
@@ -11,20 +11,27 @@ use Rattle.lists.proofs.Below.{below-turn}
 use Rattle.model.specs.declared.Cache.{Cache}
 use Rattle.model.specs.declared.Sizes.{Sizes}
 use Rattle.model.specs.Parts.{pastSet}
-use Rattle.model.specs.Sets.{setFits}
+use Rattle.model.specs.Sets.{setFits, freeSet}
 use Rattle.model.specs.Sound.{cacheFits}
+use Rattle.sound.specs.Sites.{cacheFree}
 use Rattle.sound.proofs.places.cache_fits.Statement.{statement}
 use Rattle.sound.proofs.places.cache_fits.Tie as tie
 
 -- what is tested of set k
-abbrev tests : Sizes → Cache → ℕ → Bool
-tests z c k = setFits z k (getD (c .sets) k pastSet)
+abbrev tests : Sizes → Bool → Cache → ℕ → Bool
+tests z used c k = cond used (setFits z k (getD (c .sets) k pastSet)) (freeSet (getD (c .sets) k pastSet))
 
 abbrev Inv-loop : tie.InvT-loop
-Inv-loop z c ok₀ k₀ ok k = (k ≤ 8) × (ok ≡ allBelow k (tests z c))
+Inv-loop z used c ok₀ k₀ ok k = (k ≤ 8) × (ok ≡ allBelow k (tests z used c))
 
 abbrev μ-loop : tie.MeasureT-loop
-μ-loop z c ok₀ k₀ ok k = 8 - k
+μ-loop z used c ok₀ k₀ ok k = 8 - k
+
+-- the sets of a cache of eight
+either : (z : Sizes) (used : Bool) (c : Cache) → length (c .sets) ≡ 8 → allBelow 8 (tests z used c) ≡ cond used (cacheFits z (c .sets)) (cacheFree (c .sets))
+unfolding cacheFits
+either z true c e = rw (eq-eqb _ _ e)
+either z false c e = rw (eq-eqb _ _ e)
 
 loop-holds : tie.Need-loop-holds Inv-loop μ-loop
 unfolding allBelow
@@ -39,8 +46,8 @@ mul-t c = search needs
 element-copy-out-t : tie.Need-element-copy-out-t Inv-loop μ-loop
 element-copy-out-t c = search needs
 
-set-fits-requires : tie.Need-set-fits-requires Inv-loop μ-loop
-set-fits-requires c κs = search needs
+set-place-requires : tie.Need-set-place-requires Inv-loop μ-loop
+set-place-requires c κs = search needs
 
 add-k : tie.Need-add-k Inv-loop μ-loop
 add-k c = search needs
@@ -51,15 +58,14 @@ loop-less c = search needs
 loop-again : tie.Need-loop-again Inv-loop μ-loop
 loop-again c =
     let l = c .before .before .before in
-    (search needs, rw (l .loop .inv .1, c .set-fits .ensures) (sym (below-turn (l .loop .k) _)))
+    (search needs, rw (l .loop .inv .1, c .set-place .ensures) (sym (below-turn (l .loop .k) _)))
 
 returns : tie.Need-returns Inv-loop μ-loop
-unfolding cacheFits
 returns c =
     let l = c .before in
-    let e : length (l .before .args .t2 .sets) ≡ 8 = search (needs, length-mapped) in
+    let a = l .before .args in
     let k : l .loop .k ≡ 8 = omega arith in
-    rw (l .loop .inv .1, k, eq-eqb _ _ e)
+    rw (l .loop .inv .1, k) (either (a .z) (a .used) (a .t3) (search (needs, length-mapped)))
 
 pub cache-fits-spec : {M : Type 1} → statement M
 cache-fits-spec =
@@ -71,7 +77,7 @@ cache-fits-spec =
     cast-t
     mul-t
     element-copy-out-t
-    set-fits-requires
+    set-place-requires
     add-k
     loop-less
     loop-again
