@@ -2,20 +2,25 @@
 // a table says how many have it, and there are as many messages as entries.
 ghost use mathlib.Core.Path.{_≡_};
 ghost use Prim.Native.Nat.{ℕ, _+_, _≤_, _<_};
-ghost use lib.ListN.{getD, take};
+ghost use lib.ListN.{getD, replicate, take};
 ghost use Rattle.lists.specs.Places.{allBelow, sumBelow, eachOf, allOf};
 ghost use Rattle.model.specs.Parts.{pastPends, pastSiteQueue};
-ghost use Rattle.model.specs.Sound.{tripFor, underWay, messagesFit};
-ghost use Rattle.sound.specs.Fitting.{Fitting};
+ghost use Rattle.model.specs.Sound.{tripFor};
 ghost use Rattle.sound.specs.Naming.{nearAt, nameAt, named, oneFor};
 use model::Pends;
 use model::Queue;
 use model::SiteQueue;
-use model::System;
 
 // How many messages have each name: 0 none, 1 one, 3 more.
-struct Names {
+pub(crate) struct Names {
     of: [u8; 128],
+}
+
+// No message has any name.
+pub(crate) fn none_named() -> Names
+    ensures { λ r. ⌜ r .of ≡ replicate 128 0 ⌝ }
+{
+    Names { of: [0; 128] }
 }
 
 // The name of a site, a line and a trip.
@@ -57,7 +62,7 @@ fn near_named(q: SiteQueue, t: Names) -> Names
 }
 
 // The table with the messages of a network, or of a queue of memory.
-fn far_named(q: Queue, t: Names) -> Names
+pub(crate) fn far_named(q: Queue, t: Names) -> Names
     requires { ⌜ q .count ≤ 20 ⌝ }
     ensures { λ r. ⌜ r .of ≡ named (take (q .count) (q .items)) (t .of) ⌝ }
 {
@@ -75,7 +80,7 @@ fn far_named(q: Queue, t: Names) -> Names
 }
 
 // The table with the messages of all sites' queues.
-fn sites_named(outgoing: [SiteQueue; 4], incoming: [SiteQueue; 4], t: Names) -> Names
+pub(crate) fn sites_named(outgoing: [SiteQueue; 4], incoming: [SiteQueue; 4], t: Names) -> Names
     requires { ⌜ ((i : ℕ) → i < 4 → getD outgoing i pastSiteQueue .count ≤ 5) ⌝ }
     requires { ⌜ ((i : ℕ) → i < 4 → getD incoming i pastSiteQueue .count ≤ 5) ⌝ }
     ensures { λ r. ⌜ r .of ≡ named (allOf 4 (nearAt outgoing incoming)) (t .of) ⌝ }
@@ -93,7 +98,7 @@ fn sites_named(outgoing: [SiteQueue; 4], incoming: [SiteQueue; 4], t: Names) -> 
 }
 
 // How many messages stand in the sites' queues.
-fn near_count(outgoing: [SiteQueue; 4], incoming: [SiteQueue; 4]) -> usize
+pub(crate) fn near_count(outgoing: [SiteQueue; 4], incoming: [SiteQueue; 4]) -> usize
     ensures { λ r. ⌜ r ≡ sumBelow 4 (λ i. getD outgoing i pastSiteQueue .count + getD incoming i pastSiteQueue .count) ⌝ }
     ensures { λ r. ⌜ r ≤ 2040 ⌝ }
 {
@@ -109,7 +114,7 @@ fn near_count(outgoing: [SiteQueue; 4], incoming: [SiteQueue; 4]) -> usize
 }
 
 // How many stand in the four queues of these counts.
-fn far_count(up: u8, arrived: u8, served: u8, down: u8) -> usize
+pub(crate) fn far_count(up: u8, arrived: u8, served: u8, down: u8) -> usize
     ensures { λ r. ⌜ r ≡ up + arrived + served + down ⌝ }
     ensures { λ r. ⌜ r ≤ 1020 ⌝ }
 {
@@ -136,7 +141,7 @@ fn entries_named(p: Pends, i: u8, t: Names) -> bool
 }
 
 // Each entry of each site has exactly one message.
-fn all_named(pends: [Pends; 4], sites: u8, t: Names) -> bool
+pub(crate) fn all_named(pends: [Pends; 4], sites: u8, t: Names) -> bool
     requires { ⌜ sites ≤ 4 ⌝ }
     requires { ⌜ ((i : ℕ) → i < 4 → getD pends i pastPends .count ≤ 5) ⌝ }
     ensures { λ r. ⌜ r ≡ allBelow sites (λ i. eachOf (oneFor (t .of) i) (getD pends i pastPends .count) (getD pends i pastPends .entries)) ⌝ }
@@ -153,7 +158,7 @@ fn all_named(pends: [Pends; 4], sites: u8, t: Names) -> bool
 }
 
 // How many entries the sites have.
-fn entry_count(pends: [Pends; 4], sites: u8) -> usize
+pub(crate) fn entry_count(pends: [Pends; 4], sites: u8) -> usize
     requires { ⌜ sites ≤ 4 ⌝ }
     ensures { λ r. ⌜ r ≡ sumBelow sites (λ i. getD pends i pastPends .count) ⌝ }
 {
@@ -166,25 +171,4 @@ fn entry_count(pends: [Pends; 4], sites: u8) -> usize
         i += 1;
     }
     sum
-}
-
-// Each entry has exactly one message, and there are no others.
-pub(crate) fn messages_fit(s: System) -> bool
-    requires { ⌜ Fitting s ⌝ }
-    ensures { λ r. ⌜ r ≡ messagesFit s (underWay s) ⌝ }
-{
-    let pends = s.pends;
-    let outgoing = s.outgoing;
-    let incoming = s.incoming;
-    let sites = s.sizes.sites;
-    let none = Names { of: [0; 128] };
-    let near = sites_named(outgoing, incoming, none);
-    let up = far_named(s.up, near);
-    let arrived = far_named(s.arrived, up);
-    let served = far_named(s.served, arrived);
-    let all = far_named(s.down, served);
-    let ok = all_named(pends, sites, all);
-    let messages = near_count(outgoing, incoming)
-        + far_count(s.up.count, s.arrived.count, s.served.count, s.down.count);
-    ok & (messages == entry_count(pends, sites))
 }

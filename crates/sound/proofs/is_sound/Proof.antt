@@ -1,12 +1,18 @@
-use mathlib.Core.Path.{_≡_, refl}
-use mathlib.Core.Bool.{_&&_}
+use mathlib.Core.Path.{_≡_, refl, _∙_}
+use mathlib.Core.Bool.{Bool, _&&_}
+use native.Mathlib.Omega.{arith}
 use borrow.Author.Tests.{not-true, not-false}
 use borrow.Author.Needs.{needs}
 use lib.Dec.{T}
+use lib.ListN.{replicate}
 use Rattle.lists.proofs.Tests.{and-l, and-r}
 use Rattle.model.specs.declared.System.{System}
-use Rattle.model.specs.Sound.{sound, messagesFit, underWay}
+use Rattle.model.specs.Limits.{inLimits}
+use Rattle.model.specs.Sound.{request, reply, memoryFits, fourSites, sitesFit, netFits, sound, messagesFit, underWay}
 use Rattle.sound.specs.Fitting.{partsFit, Fitting}
+use Rattle.sound.specs.Naming.{named}
+use Rattle.sound.specs.Sites.{systemOf}
+use Rattle.sound.proofs.Pairing.{named-under-way, sites-most, pends-most, out-most, in-most, net-most, by-names}
 use Rattle.sound.proofs.is_sound.Statement.{statement}
 use Rattle.sound.proofs.is_sound.Tie as tie
 
@@ -18,23 +24,163 @@ sound-parts : (s : System) → sound s ≡ (partsFit s && messagesFit s (underWa
 unfolding sound partsFit
 sound-parts s = refl
 
-parts-fit-requires : tie.Need-parts-fit-requires
-parts-fit-requires c κs = search needs
+-- the tests of the parts, one by one
+made : (s : System) (f m g u a v d : Bool) → f ≡ inLimits (s .sizes) → m ≡ memoryFits (s .sizes) (s .memory) →
+    g ≡ sitesFit (systemOf (s .sizes) (s .caches) (s .pends) (s .stalls) (s .outgoing) (s .incoming)) →
+    u ≡ netFits (s .sizes) request (s .up) → a ≡ netFits (s .sizes) request (s .arrived) →
+    v ≡ netFits (s .sizes) reply (s .served) → d ≡ netFits (s .sizes) reply (s .down) → (f && m && g && u && a && v && d) ≡ partsFit s
+unfolding fourSites sitesFit partsFit
+made s f m g u a v d p q r w x y z = rw (p, q, r, w, x, y, z)
+
+fit-requires : tie.Need-fit-requires
+fit-requires c κs = search needs
+
+memory-fits-requires : tie.Need-memory-fits-requires
+memory-fits-requires c κs = search needs
+
+sites-fit-requires : tie.Need-sites-fit-requires
+sites-fit-requires c κs = search needs
+
+far-fits-requires : tie.Need-far-fits-requires
+far-fits-requires c κs = search needs
+
+far-fits-requires-2 : tie.Need-far-fits-requires-2
+far-fits-requires-2 c κs = search needs
+
+far-fits-requires-3 : tie.Need-far-fits-requires-3
+far-fits-requires-3 c κs = search needs
+
+far-fits-requires-4 : tie.Need-far-fits-requires-4
+far-fits-requires-4 c κs = search needs
 
 returns : tie.Need-returns
 returns c =
-    let p = c .before .parts-fit in
-    rw (sound-parts (c .before .before .args .s), ← p .ensures, not-true (p .result) (c .if1 .taken))
+    let i = c in
+    let o = i .before in
+    let s = o .before .before .before .before .before .before .before .before .before .before .before .before .before .before .before .before .before .before .args .s in
+    let e = made s _ _ _ _ _ _ _ (o .before .before .before .before .before .before .fit .ensures) (o .before .before .before .before .before .memory-fits .ensures) (o .before .before .before .before .sites-fit .ensures) (o .before .before .before .far-fits .ensures) (o .before .before .far-fits2 .ensures) (o .before .far-fits3 .ensures) (o .far-fits4 .ensures) in
+    rw (sound-parts s, ← e, not-true (o .before .before .before .before .before .before .fit .result && o .before .before .before .before .before .memory-fits .result && o .before .before .before .before .sites-fit .result && o .before .before .before .far-fits .result && o .before .before .far-fits2 .result && o .before .far-fits3 .result && o .far-fits4 .result) (i .if1 .taken))
 
-messages-fit-requires : tie.Need-messages-fit-requires
-messages-fit-requires c κs =
-    let p = c .before .parts-fit in
-    fitting (c .before .before .args .s) (rw (← p .ensures, not-false (p .result) (c .if1 .left)) tt)
+none-named-requires : tie.Need-none-named-requires
+none-named-requires c κs = search needs
+
+sites-named-requires : tie.Need-sites-named-requires
+sites-named-requires c κs =
+    let i = c .before in
+    let o = i .before in
+    let s = o .before .before .before .before .before .before .before .before .before .before .before .before .before .before .before .before .before .before .args .s in
+    let e = made s _ _ _ _ _ _ _ (o .before .before .before .before .before .before .fit .ensures) (o .before .before .before .before .before .memory-fits .ensures) (o .before .before .before .before .sites-fit .ensures) (o .before .before .before .far-fits .ensures) (o .before .before .far-fits2 .ensures) (o .before .far-fits3 .ensures) (o .far-fits4 .ensures) in
+    let h = fitting s (rw (← e, not-false (o .before .before .before .before .before .before .fit .result && o .before .before .before .before .before .memory-fits .result && o .before .before .before .before .sites-fit .result && o .before .before .before .far-fits .result && o .before .before .far-fits2 .result && o .before .far-fits3 .result && o .far-fits4 .result) (i .if1 .left)) tt) in
+    (out-most s h, in-most s h)
+
+far-named-requires : tie.Need-far-named-requires
+far-named-requires c κs =
+    let i = c .before .before in
+    let o = i .before in
+    let s = o .before .before .before .before .before .before .before .before .before .before .before .before .before .before .before .before .before .before .args .s in
+    let e = made s _ _ _ _ _ _ _ (o .before .before .before .before .before .before .fit .ensures) (o .before .before .before .before .before .memory-fits .ensures) (o .before .before .before .before .sites-fit .ensures) (o .before .before .before .far-fits .ensures) (o .before .before .far-fits2 .ensures) (o .before .far-fits3 .ensures) (o .far-fits4 .ensures) in
+    let h = fitting s (rw (← e, not-false (o .before .before .before .before .before .before .fit .result && o .before .before .before .before .before .memory-fits .result && o .before .before .before .before .sites-fit .result && o .before .before .before .far-fits .result && o .before .before .far-fits2 .result && o .before .far-fits3 .result && o .far-fits4 .result) (i .if1 .left)) tt) in
+    net-most s h request (s .up) (h .up)
+
+far-named-requires-2 : tie.Need-far-named-requires-2
+far-named-requires-2 c κs =
+    let i = c .before .before .before in
+    let o = i .before in
+    let s = o .before .before .before .before .before .before .before .before .before .before .before .before .before .before .before .before .before .before .args .s in
+    let e = made s _ _ _ _ _ _ _ (o .before .before .before .before .before .before .fit .ensures) (o .before .before .before .before .before .memory-fits .ensures) (o .before .before .before .before .sites-fit .ensures) (o .before .before .before .far-fits .ensures) (o .before .before .far-fits2 .ensures) (o .before .far-fits3 .ensures) (o .far-fits4 .ensures) in
+    let h = fitting s (rw (← e, not-false (o .before .before .before .before .before .before .fit .result && o .before .before .before .before .before .memory-fits .result && o .before .before .before .before .sites-fit .result && o .before .before .before .far-fits .result && o .before .before .far-fits2 .result && o .before .far-fits3 .result && o .far-fits4 .result) (i .if1 .left)) tt) in
+    net-most s h request (s .arrived) (h .arrived)
+
+far-named-requires-3 : tie.Need-far-named-requires-3
+far-named-requires-3 c κs =
+    let i = c .before .before .before .before in
+    let o = i .before in
+    let s = o .before .before .before .before .before .before .before .before .before .before .before .before .before .before .before .before .before .before .args .s in
+    let e = made s _ _ _ _ _ _ _ (o .before .before .before .before .before .before .fit .ensures) (o .before .before .before .before .before .memory-fits .ensures) (o .before .before .before .before .sites-fit .ensures) (o .before .before .before .far-fits .ensures) (o .before .before .far-fits2 .ensures) (o .before .far-fits3 .ensures) (o .far-fits4 .ensures) in
+    let h = fitting s (rw (← e, not-false (o .before .before .before .before .before .before .fit .result && o .before .before .before .before .before .memory-fits .result && o .before .before .before .before .sites-fit .result && o .before .before .before .far-fits .result && o .before .before .far-fits2 .result && o .before .far-fits3 .result && o .far-fits4 .result) (i .if1 .left)) tt) in
+    net-most s h reply (s .served) (h .served)
+
+far-named-requires-4 : tie.Need-far-named-requires-4
+far-named-requires-4 c κs =
+    let i = c .before .before .before .before .before in
+    let o = i .before in
+    let s = o .before .before .before .before .before .before .before .before .before .before .before .before .before .before .before .before .before .before .args .s in
+    let e = made s _ _ _ _ _ _ _ (o .before .before .before .before .before .before .fit .ensures) (o .before .before .before .before .before .memory-fits .ensures) (o .before .before .before .before .sites-fit .ensures) (o .before .before .before .far-fits .ensures) (o .before .before .far-fits2 .ensures) (o .before .far-fits3 .ensures) (o .far-fits4 .ensures) in
+    let h = fitting s (rw (← e, not-false (o .before .before .before .before .before .before .fit .result && o .before .before .before .before .before .memory-fits .result && o .before .before .before .before .sites-fit .result && o .before .before .before .far-fits .result && o .before .before .far-fits2 .result && o .before .far-fits3 .result && o .far-fits4 .result) (i .if1 .left)) tt) in
+    net-most s h reply (s .down) (h .down)
+
+all-named-requires : tie.Need-all-named-requires
+all-named-requires c κs =
+    let i = c .before .before .before .before .before .before in
+    let o = i .before in
+    let s = o .before .before .before .before .before .before .before .before .before .before .before .before .before .before .before .before .before .before .args .s in
+    let e = made s _ _ _ _ _ _ _ (o .before .before .before .before .before .before .fit .ensures) (o .before .before .before .before .before .memory-fits .ensures) (o .before .before .before .before .sites-fit .ensures) (o .before .before .before .far-fits .ensures) (o .before .before .far-fits2 .ensures) (o .before .far-fits3 .ensures) (o .far-fits4 .ensures) in
+    let h = fitting s (rw (← e, not-false (o .before .before .before .before .before .before .fit .result && o .before .before .before .before .before .memory-fits .result && o .before .before .before .before .sites-fit .result && o .before .before .before .far-fits .result && o .before .before .far-fits2 .result && o .before .far-fits3 .result && o .far-fits4 .result) (i .if1 .left)) tt) in
+    (sites-most s h, pends-most s h)
+
+near-count-requires : tie.Need-near-count-requires
+near-count-requires c κs = search needs
+
+far-count-requires : tie.Need-far-count-requires
+far-count-requires c κs = search needs
+
+add-messages : tie.Need-add-messages
+add-messages c = record { fits = omega (arith, c .far-count .ensures .1, c .before .near-count .ensures .1) }
+
+entry-count-requires : tie.Need-entry-count-requires
+entry-count-requires c κs =
+    let i = c .before .before .before .before .before .before .before .before .before in
+    let o = i .before in
+    let s = o .before .before .before .before .before .before .before .before .before .before .before .before .before .before .before .before .before .before .args .s in
+    let e = made s _ _ _ _ _ _ _ (o .before .before .before .before .before .before .fit .ensures) (o .before .before .before .before .before .memory-fits .ensures) (o .before .before .before .before .sites-fit .ensures) (o .before .before .before .far-fits .ensures) (o .before .before .far-fits2 .ensures) (o .before .far-fits3 .ensures) (o .far-fits4 .ensures) in
+    let h = fitting s (rw (← e, not-false (o .before .before .before .before .before .before .fit .result && o .before .before .before .before .before .memory-fits .result && o .before .before .before .before .sites-fit .result && o .before .before .before .far-fits .result && o .before .before .far-fits2 .result && o .before .far-fits3 .result && o .far-fits4 .result) (i .if1 .left)) tt) in
+    sites-most s h
 
 returns-2 : tie.Need-returns-2
 returns-2 c =
-    let p = c .before .before .parts-fit in
-    rw (sound-parts (c .before .before .before .args .s), ← p .ensures, not-false (p .result) (c .before .if1 .left)) (c .messages-fit .ensures)
+    let i = c .before .before .before .before .before .before .before .before .before .before in
+    let o = i .before in
+    let s = o .before .before .before .before .before .before .before .before .before .before .before .before .before .before .before .before .before .before .args .s in
+    let e = made s _ _ _ _ _ _ _ (o .before .before .before .before .before .before .fit .ensures) (o .before .before .before .before .before .memory-fits .ensures) (o .before .before .before .before .sites-fit .ensures) (o .before .before .before .far-fits .ensures) (o .before .before .far-fits2 .ensures) (o .before .far-fits3 .ensures) (o .far-fits4 .ensures) in
+    let h = fitting s (rw (← e, not-false (o .before .before .before .before .before .before .fit .result && o .before .before .before .before .before .memory-fits .result && o .before .before .before .before .sites-fit .result && o .before .before .before .far-fits .result && o .before .before .far-fits2 .result && o .before .far-fits3 .result && o .far-fits4 .result) (i .if1 .left)) tt) in
+    let f = c .before .before .before .before in
+    let t : f .far-named4 .result .of ≡ named (underWay s) (replicate 128 0) =
+    f .far-named4 .ensures ∙
+    rw (f .before .far-named3 .ensures, f .before .before .far-named2 .ensures, f .before .before .before .far-named .ensures, f .before .before .before .before .sites-named .ensures, f .before .before .before .before .before .none-named .ensures)
+    (named-under-way s (replicate 128 0)) in
+    rw (
+      sound-parts s,
+      ← e,
+      not-false (o .before .before .before .before .before .before .fit .result && o .before .before .before .before .before .memory-fits .result && o .before .before .before .before .sites-fit .result && o .before .before .before .far-fits .result && o .before .before .far-fits2 .result && o .before .far-fits3 .result && o .far-fits4 .result) (i .if1 .left),
+      c .before .before .before .all-named .ensures,
+      t,
+      c .before .before .near-count .ensures .0,
+      c .before .far-count .ensures .0,
+      c .entry-count .ensures,
+    )
+    (by-names s h)
 
 pub is-sound-spec : {M : Type 1} → statement M
-is-sound-spec = tie.close (tie.spec parts-fit-requires returns messages-fit-requires returns-2)
+is-sound-spec =
+    tie.close
+    (tie.spec
+    fit-requires
+    memory-fits-requires
+    sites-fit-requires
+    far-fits-requires
+    far-fits-requires-2
+    far-fits-requires-3
+    far-fits-requires-4
+    returns
+    none-named-requires
+    sites-named-requires
+    far-named-requires
+    far-named-requires-2
+    far-named-requires-3
+    far-named-requires-4
+    all-named-requires
+    near-count-requires
+    far-count-requires
+    add-messages
+    entry-count-requires
+    returns-2)
