@@ -78,8 +78,7 @@ tags-differ-requires c κs =
     let p = o .before .before .before .pends-fit in
     let t = o .before .before .stalls-fit in
     let g = o .before .near-fits in
-    let h = o .near-fits2 in
-    (
+    let h = o .near-fits2 in (
       pends-most (a .z) (a .pends .count) (a .pends .entries) (rw (p .ensures) at (second-fits (f .result) (p .result) (t .result) (g .result) (h .result) (w .before .if1 .left))),
       stalls-most (a .z) (a .stalls .count) (a .stalls .waiting) (rw (t .ensures) at (third-fits (f .result) (p .result) (t .result) (g .result) (h .result) (w .before .if1 .left))),
     )
@@ -98,7 +97,12 @@ returns-3 c =
       c .before .before .cached-apart .ensures,
       c .before .lines-differ .ensures,
       c .tags-differ .ensures,
-      site-tests (a .z) (a .i) (siteFrom (a .cache) (a .pends) (a .stalls) (a .outgoing) (a .incoming)), ← f .ensures, ← p .ensures, ← t .ensures, ← g .ensures, ← h .ensures,
+      site-tests (a .z) (a .i) (siteFrom (a .cache) (a .pends) (a .stalls) (a .outgoing) (a .incoming)),
+      ← f .ensures,
+      ← p .ensures,
+      ← t .ensures,
+      ← g .ensures,
+      ← h .ensures,
       not-false (f .result && p .result && t .result && g .result && h .result) (w .before .if1 .left),
       not-false (ltb (a .i) (a .z .sites)) (w .if2 .left),
     )
