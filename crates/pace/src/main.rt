@@ -37,10 +37,11 @@ fn take_steps(s: System, bytes: &[u8], start: usize) -> u64
         };
         let after = step_sound(t, x);
         let outcome = after.outcome;
+        // Before the match on the outcome: a state that is copied behind one is copied once more.
+        t = after.system;
         if is_done(outcome) {
             accepted += 1;
         }
-        t = after.system;
         at = next;
     }
     accepted

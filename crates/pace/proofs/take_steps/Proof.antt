@@ -1,5 +1,4 @@
 use mathlib.Core.Bool.{true}
-use mathlib.Core.Logic.{⊎-elim}
 use mathlib.Core.Path.{_≡_, sym, _∙_}
 use Prim.Native.Nat.{_+_, _-_, _≤_}
 use native.Mathlib.Omega.{arith}
@@ -33,13 +32,39 @@ is-done-requires : tie.Need-is-done-requires Inv-steps μ-steps
 is-done-requires c κs = search needs
 
 add-accepted : tie.Need-add-accepted Inv-steps μ-steps
-add-accepted c = let got = (c .before .before .before .before .got) in let steps = (c .before .before .before .before .before .before .before .steps) in let on = step-on (c .before .before .before .before .before .before .before .before .before .args .bytes .now) (steps .at) (got .given .0 .1 .0) (got .given .0 .0) (sym (c .before .before .before .before .before .before .read-step .ensures) ∙ got .given .1) in omega (arith, on, steps .inv .1)
+add-accepted c =
+    let got = c .before .before .before .before .before .got in
+    let steps = c .before .before .before .before .before .before .before .before .steps in
+    let on = step-on (c .before .before .before .before .before .before .before .before .before .before .args .bytes .now) (steps .at) (got .given .0 .1 .0) (got .given .0 .0) (sym (c .before .before .before .before .before .before .before .read-step .ensures) ∙ got .given .1) in
+    omega (arith, on, steps .inv .1)
 
 steps-less : tie.Need-steps-less Inv-steps μ-steps
-steps-less c = let got = (c .before .before .before .before .before .got) in let steps = (c .before .before .before .before .before .before .before .before .steps) in let on = step-on (c .before .before .before .before .before .before .before .before .before .before .args .bytes .now) (steps .at) (got .given .0 .1 .0) (got .given .0 .0) (sym (c .before .before .before .before .before .before .before .read-step .ensures) ∙ got .given .1) in omega (arith, on)
+steps-less c =
+    let got = c .before .before .before .before .before .got in
+    let steps = c .before .before .before .before .before .before .before .before .steps in
+    let on = step-on (c .before .before .before .before .before .before .before .before .before .before .args .bytes .now) (steps .at) (got .given .0 .1 .0) (got .given .0 .0) (sym (c .before .before .before .before .before .before .before .read-step .ensures) ∙ got .given .1) in
+    omega (arith, on)
 
 steps-again : tie.Need-steps-again Inv-steps μ-steps
-steps-again c = let got = (c .before .before .before .before .before .got) in let steps = (c .before .before .before .before .before .before .before .before .steps) in let on = step-on (c .before .before .before .before .before .before .before .before .before .before .args .bytes .now) (steps .at) (got .given .0 .1 .0) (got .given .0 .0) (sym (c .before .before .before .before .before .before .before .read-step .ensures) ∙ got .given .1) in (rw (c .before .before .before .step-sound .ensures) (sound-again (steps .t) (got .given .0 .0) (steps .inv .0)), ⊎-elim (λ w. omega (arith, on, steps .inv .1, w)) (λ w. omega (arith, on, steps .inv .1, w)) (c .before .if1 .came))
+steps-again c =
+    let got = c .before .before .before .before .before .got in
+    let steps = c .before .before .before .before .before .before .before .before .steps in
+    let on = step-on (c .before .before .before .before .before .before .before .before .before .before .args .bytes .now) (steps .at) (got .given .0 .1 .0) (got .given .0 .0) (sym (c .before .before .before .before .before .before .before .read-step .ensures) ∙ got .given .1) in
+    (rw (c .before .before .before .step-sound .ensures) (sound-again (steps .t) (got .given .0 .0) (steps .inv .0)), omega (arith, on, steps .inv .1))
+
+steps-less-2 : tie.Need-steps-less-2 Inv-steps μ-steps
+steps-less-2 c =
+    let got = c .before .before .before .before .before .got in
+    let steps = c .before .before .before .before .before .before .before .before .steps in
+    let on = step-on (c .before .before .before .before .before .before .before .before .before .before .args .bytes .now) (steps .at) (got .given .0 .1 .0) (got .given .0 .0) (sym (c .before .before .before .before .before .before .before .read-step .ensures) ∙ got .given .1) in
+    omega (arith, on)
+
+steps-again-2 : tie.Need-steps-again-2 Inv-steps μ-steps
+steps-again-2 c =
+    let got = c .before .before .before .before .before .got in
+    let steps = c .before .before .before .before .before .before .before .before .steps in
+    let on = step-on (c .before .before .before .before .before .before .before .before .before .before .args .bytes .now) (steps .at) (got .given .0 .1 .0) (got .given .0 .0) (sym (c .before .before .before .before .before .before .before .read-step .ensures) ∙ got .given .1) in
+    (rw (c .before .before .before .step-sound .ensures) (sound-again (steps .t) (got .given .0 .0) (steps .inv .0)), omega (arith, on, steps .inv .1))
 
 returns : tie.Need-returns Inv-steps μ-steps
 returns c = search needs
@@ -58,4 +83,6 @@ take-steps-spec =
     add-accepted
     steps-less
     steps-again
+    steps-less-2
+    steps-again-2
     returns)

@@ -21,7 +21,10 @@ same-length c = search needs
 
 returns : tie.Need-returns
 unfolding writeSizes
-returns c = let row = c .before .before .before .before .sizes-row .result in let held : take (row .count) (row .numbers) ≡ sixOf (c .before .before .before .before .before .before .before .before .args .z) = rw (c .before .before .before .before .sizes-row .ensures) refl in rw (← c .before .before .before .before .before .before .fit .ensures, c .before .before .before .before .before .if1 .taken, ← held) (c .before .before .write-row .ensures)
+returns c =
+    let row = c .before .before .before .before .sizes-row .result in
+    let held : take (row .count) (row .numbers) ≡ sixOf (c .before .before .before .before .before .before .before .before .args .z) = rw (c .before .before .before .before .sizes-row .ensures) refl in
+    rw (← c .before .before .before .before .before .before .fit .ensures, c .before .before .before .before .before .if1 .taken, ← held) (c .before .before .write-row .ensures)
 
 returns-2 : tie.Need-returns-2
 unfolding writeSizes

@@ -18,7 +18,11 @@ same-length c = search needs
 
 returns : tie.Need-returns
 unfolding writeStep
-returns c = let x = c .before .before .before .before .before .before .args .x in let row = c .before .before .before .before .numbers-of .result in let held : take (row .count) (row .numbers) ≡ numbersOf x = rw (c .before .before .before .before .numbers-of .ensures) (row-holds (numbersOf x) (numbers-six x)) in rw (← held) (c .before .before .write-row .ensures)
+returns c =
+    let x = c .before .before .before .before .before .before .args .x in
+    let row = c .before .before .before .before .numbers-of .result in
+    let held : take (row .count) (row .numbers) ≡ numbersOf x = rw (c .before .before .before .before .numbers-of .ensures) (row-holds (numbersOf x) (numbers-six x)) in
+    rw (← held) (c .before .before .write-row .ensures)
 
 pub write-step-spec : {M : Type 1} → statement M
 write-step-spec = tie.close (tie.spec numbers-of-requires write-row-requires same-length returns)

@@ -24,7 +24,10 @@ in-numbers-requires c κs = search needs
 
 returns : tie.Need-returns
 unfolding freshCall freshOf
-returns c = let a = (c .before .before .before .args) in let ns = a .sites ∷ a .words ∷ a .lines ∷ a .sets ∷ a .pend ∷ a .stall ∷ [] in c .in-numbers .ensures ∙ ap numbered (c .before .fresh .ensures ∙ rw (c .before .before .sizes-of .ensures) (cut-alike ns freshOf (refused SizeOutside (blank noSizes)) (λ z out. rw out)))
+returns c =
+    let a = c .before .before .before .args in
+    let ns = a .sites ∷ a .words ∷ a .lines ∷ a .sets ∷ a .pend ∷ a .stall ∷ [] in
+    c .in-numbers .ensures ∙ ap numbered (c .before .fresh .ensures ∙ rw (c .before .before .sizes-of .ensures) (cut-alike ns freshOf (refused SizeOutside (blank noSizes)) (λ z out. rw out)))
 
 pub fresh-call-spec : {M : Type 1} → statement M
 fresh-call-spec = tie.close (tie.spec sizes-of-requires fresh-requires in-numbers-requires returns)

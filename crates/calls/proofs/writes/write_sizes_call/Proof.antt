@@ -28,7 +28,10 @@ same-length c = search needs
 
 returns : tie.Need-returns
 unfolding writeSizesCall writeSizes
-returns c = let a = (c .before .before .before .before .before .before .before .args) in let ns = a .sites ∷ a .words ∷ a .lines ∷ a .sets ∷ a .pend ∷ a .stall ∷ [] in rw (c .wrote-given .ensures) (ap wroteResult (c .before .before .before .write-sizes .ensures ∙ rw (c .before .before .before .before .before .sizes-of .ensures) (cut-alike ns (λ z. writeSizes z (a .buf .now)) (written (NotWritten SizeOutside) (a .buf .now)) (λ z out. rw out))))
+returns c =
+    let a = c .before .before .before .before .before .before .before .args in
+    let ns = a .sites ∷ a .words ∷ a .lines ∷ a .sets ∷ a .pend ∷ a .stall ∷ [] in
+    rw (c .wrote-given .ensures) (ap wroteResult (c .before .before .before .write-sizes .ensures ∙ rw (c .before .before .before .before .before .sizes-of .ensures) (cut-alike ns (λ z. writeSizes z (a .buf .now)) (written (NotWritten SizeOutside) (a .buf .now)) (λ z out. rw out))))
 
 pub write-sizes-call-spec : {M : Type 1} → statement M
 write-sizes-call-spec =
