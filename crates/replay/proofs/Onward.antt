@@ -101,18 +101,23 @@ module _ (bs buf₀ : List ℕ) (from : Listed) where
           ((inl refl, o .counted), (omega (arith, p .past, p .room, o .same), inl refl)),
         )
 
-    -- a line had no room, and so there was another before it
+    -- a line might have no room, and so there was another before it
+    pub crowded : length buf < used + mostLine → mostLine ≤ length buf₀ → Done buf (record { system = s; at = at; count = count; length = used; ended = ended })
+    unfolding toList
+    crowded tight large = (
+      rw (o .going, toList) (o .all),
+      (
+        (inr (o .is-sound), o .counted),
+        (omega (arith, o .within, o .same), inr (⊎-elim (λ h. absurd (omega (arith, tight, large, o .same, h))) (λ h. h) (o .further))),
+      ),
+    )
+
+    -- a line had no room
     pub full : (new : List ℕ) (why : Refusal) → length new ≤ mostLine → mostLine ≤ length buf₀ → written (NotWritten why) after ≡ linedAt new buf used →
         Done after (record { system = s; at = at; count = count; length = used; ended = ended })
-    unfolding toList
     full new why short large w =
-        let n = no-room new buf after used why w in (
-          rw (n .1, o .going, toList) (o .all),
-          (
-            (inr (o .is-sound), o .counted),
-            (omega (arith, o .within, o .same), inr (⊎-elim (λ h. absurd (omega (arith, n .0, short, large, o .same, h))) (λ h. h) (o .further))),
-          ),
-        )
+        let n = no-room new buf after used why w in
+        rw (n .1) (crowded (omega (arith, n .0, short)) large)
 
 pub start : (bs buf : List ℕ) (s : System) (at count : ℕ) → sound s ≡ true → count ≤ at → Onward bs buf (anew s at count) buf s at count 0 false
 unfolding toList

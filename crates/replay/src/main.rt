@@ -10,6 +10,7 @@ ghost use Rattle.model.specs.Replay.{sizesLine, recordLine, linedAt, listing};
 ghost use Rattle.replay.specs.Going.{First, refusedSizes, begunWith, lastLine, toList, inAll, Going, Further};
 use left::messages_left;
 use left::outstanding_left;
+use listing::MOST_LINE;
 use listing::put_left;
 use listing::put_record;
 use listing::put_sizes;
@@ -20,6 +21,7 @@ use model::Refusal;
 use model::Sizes;
 use model::System;
 use model::Wrote;
+use numbers::fits;
 use record::read_sizes;
 use record::read_step;
 use steps::step_sound;
@@ -132,13 +134,17 @@ fn list_on(bytes: &[u8], from: Listed, buf: &mut [u8]) -> Listed
             ended = true;
             break 'lines;
         };
+        // The step is taken where its line has room: the state before it is then wanted no more, and one copy of a state is saved.
+        if !fits(buf.len(), length, MOST_LINE) {
+            break 'lines;
+        }
         let after = step_sound(s, x);
         let outcome = after.outcome;
+        s = after.system;
         let wrote = put_step(buf, length, count + 1, x, outcome);
         let Wrote::Past(end) = wrote else {
             break 'lines;
         };
-        s = after.system;
         at = next;
         count += 1;
         length = end;
