@@ -10,7 +10,7 @@
  *     not null; no byte is touched.
  *   - A lent buffer and a lent system do not overlap.
  *
- * The library keeps nothing between calls and allocates nothing. Threads may call it at once with systems and buffers of their own; what
+ * The library keeps nothing between calls and allocates nothing; a call takes some 45 KB of stack at most. Threads may call it at once with systems and buffers of their own; what
  * is lent to a call must not be used by another thread meanwhile.
  */
 #ifndef MWB_H
@@ -62,7 +62,7 @@ enum mwb_number {
 
 enum mwb_step_number {
     MWB_ISSUE = 0,          /* (site, instruction) */
-    MWB_RETRY = 1,          /* (site) "the head of the stall queue is handled as if issued now; if it must still wait, it stays" */
+    MWB_RETRY = 1,          /* (site) "the head of the stall queue is handled as if issued now; if it must still wait, it stays and the step is refused" */
     MWB_SEND = 2,           /* (site) "head of the outgoing queue enters the up network" */
     MWB_ARRIVE_MEMORY = 3,  /* (position) "up network to memory's incoming queue" */
     MWB_SERVE = 4,          /* "memory handles its head and queues the reply" */
@@ -123,7 +123,7 @@ typedef struct mwb_place {
 
 /* "a cache with one place per set, line L living in set L mod sets" */
 typedef struct mwb_cache_set {
-    mwb_place low;
+    mwb_place low;  /* its one place */
 } mwb_cache_set;
 
 typedef struct mwb_cache {
@@ -171,8 +171,8 @@ typedef struct mwb_system {
 } mwb_system;
 
 /* ---- Results ----
- * `number` is one of enum mwb_number. With any but 0 the call was refused: "no byte or field is altered" (but see mwb_fresh) and the
- * result's other numbers are 0, save that 10 has its place and 13 has place 65,536. Of the numbers that hold, the first in the order
+ * `number` is one of enum mwb_number. With any but 0 the call was refused: "no byte or field is altered" (but see mwb_fresh; the bytes
+ * between the fields of a system hold nothing and may change) and the result's other numbers are 0, save that 10 has its place and 13 has place 65,536. Of the numbers that hold, the first in the order
  * given at the call is the one given back. */
 
 enum mwb_answered { MWB_NO_ANSWER = 0, MWB_VALUE = 1, MWB_ACK = 2 };
@@ -233,6 +233,7 @@ uint32_t mwb_sound(const mwb_system *s);
  *   second       a Storel's value, or a fence's second address
  * What a step or an instruction does not use is not looked at. Looked at in this order:
  *   each          1; then 10 with place 0 for a step above 7, and with place 2 for an instruction above 7 of an issue
+ *                 (the place counts the six numbers above from 0)
  *   issue         2, 4 (both addresses of a fence), 5, 6, 7
  *   retry         2, 8, 9
  *   send, take    2, 8

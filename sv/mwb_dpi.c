@@ -19,7 +19,7 @@ static void stop(const char *why) {
 /* The array's bytes, of which the bench lends so many. */
 static uint8_t *lent(const svOpenArrayHandle array, sv_long length) {
     uint8_t *bytes = (uint8_t *)svGetArrayPtr(array);
-    if (bytes == NULL || length > (sv_long)svSizeOfArray(array)) stop("the array has fewer bytes than are lent");
+    if (bytes == NULL || length > (sv_long)svSizeOfArray(array)) stop("the array has fewer bytes than are lent, or is not laid out as C's");
     return bytes;
 }
 

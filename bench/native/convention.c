@@ -10,50 +10,43 @@ void value_mwb_read_step(mwb_step_read *given, const uint8_t *bytes, size_t leng
 void value_mwb_write_sizes(mwb_wrote *given, uint8_t *buf, size_t length, uint32_t sites, uint32_t words, uint32_t lines, uint32_t sets, uint32_t pend, uint32_t stall);
 void value_mwb_write_step(mwb_wrote *given, uint8_t *buf, size_t length, size_t at, uint32_t step, uint32_t site, uint32_t instruction, uint32_t tag, uint32_t first, uint32_t second);
 
-mwb_given mwb_fresh(mwb_system *s, uint32_t sites, uint32_t words, uint32_t lines, uint32_t sets, uint32_t pend, uint32_t stall)
-{
+mwb_given mwb_fresh(mwb_system *s, uint32_t sites, uint32_t words, uint32_t lines, uint32_t sets, uint32_t pend, uint32_t stall) {
     mwb_given given;
     value_mwb_fresh(&given, s, sites, words, lines, sets, pend, stall);
     return given;
 }
 
-mwb_given mwb_step(mwb_system *s, uint32_t step, uint32_t site, uint32_t instruction, uint32_t tag, uint32_t first, uint32_t second)
-{
+mwb_given mwb_step(mwb_system *s, uint32_t step, uint32_t site, uint32_t instruction, uint32_t tag, uint32_t first, uint32_t second) {
     mwb_given given;
     value_mwb_step(&given, s, step, site, instruction, tag, first, second);
     return given;
 }
 
-mwb_drained mwb_drain(mwb_system *s, size_t budget, uint8_t *buf, size_t length)
-{
+mwb_drained mwb_drain(mwb_system *s, size_t budget, uint8_t *buf, size_t length) {
     mwb_drained given;
     value_mwb_drain(&given, s, budget, buf, length);
     return given;
 }
 
-mwb_sizes_read mwb_read_sizes(const uint8_t *bytes, size_t length)
-{
+mwb_sizes_read mwb_read_sizes(const uint8_t *bytes, size_t length) {
     mwb_sizes_read given;
     value_mwb_read_sizes(&given, bytes, length);
     return given;
 }
 
-mwb_step_read mwb_read_step(const uint8_t *bytes, size_t length, size_t at)
-{
+mwb_step_read mwb_read_step(const uint8_t *bytes, size_t length, size_t at) {
     mwb_step_read given;
     value_mwb_read_step(&given, bytes, length, at);
     return given;
 }
 
-mwb_wrote mwb_write_sizes(uint8_t *buf, size_t length, uint32_t sites, uint32_t words, uint32_t lines, uint32_t sets, uint32_t pend, uint32_t stall)
-{
+mwb_wrote mwb_write_sizes(uint8_t *buf, size_t length, uint32_t sites, uint32_t words, uint32_t lines, uint32_t sets, uint32_t pend, uint32_t stall) {
     mwb_wrote given;
     value_mwb_write_sizes(&given, buf, length, sites, words, lines, sets, pend, stall);
     return given;
 }
 
-mwb_wrote mwb_write_step(uint8_t *buf, size_t length, size_t at, uint32_t step, uint32_t site, uint32_t instruction, uint32_t tag, uint32_t first, uint32_t second)
-{
+mwb_wrote mwb_write_step(uint8_t *buf, size_t length, size_t at, uint32_t step, uint32_t site, uint32_t instruction, uint32_t tag, uint32_t first, uint32_t second) {
     mwb_wrote given;
     value_mwb_write_step(&given, buf, length, at, step, site, instruction, tag, first, second);
     return given;

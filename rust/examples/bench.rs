@@ -55,7 +55,7 @@ fn refusals(system: &mut System) {
     issue(system, 1, 8, Instruction::Loadl { address: 0 });
     // Nothing was sent yet.
     step(system, Step::ArriveMemory(0));
-    // Step has no eighth kind, so only a record can name one.
+    // No kind of Step has the number 8, so only a record can name it.
     if let Err(why) = read_step(&[8], 0) {
         println!("record {} at {}", why.number(), why.place());
     }

@@ -33,6 +33,7 @@ pub struct Drained {
     pub length: usize,
 }
 
+/// A system in some state.
 #[derive(Clone, Debug, PartialEq, Eq)]
 pub struct System(raw::System);
 

@@ -53,7 +53,7 @@ freshCall sites words lines sets pend stall = numbered (freshOf (sizesOf (sites 
 
 -- Numbers that name no step are refused with 10, the place counting the numbers; the lowest number first.
 abbrev pub unnamedWhy : Bool → ℕ → Refusal
-unnamedWhy sound place = cond sound (NoRecord place) NotSound
+unnamedWhy isSound place = cond isSound (NoRecord place) NotSound
 
 abbrev pub unnamed : System → ℕ → After
 unnamed s place = record { outcome = Refused (unnamedWhy (sound s) place); system = s }

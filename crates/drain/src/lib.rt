@@ -64,7 +64,7 @@ fn put_step(buf: &mut [u8], at: usize, x: Step) -> usize
 pub fn drain(s: System, budget: usize, buf: &mut [u8]) -> Drained
     ensures { λ r. ⌜ drainGives r (now (buf .exit)) ≡ drainOf s budget (now (buf .entry)) ⌝ }
 {
-    // One name from the start: a state that is used under two is copied for each.
+    // One name from the start, but where its sizes are read: a state that is used under two is copied for each.
     let mut t = s;
     if !is_sound(t) {
         return refuse(Refusal::NotSound, t);

@@ -1,5 +1,5 @@
-// Whether each pend entry has exactly one message under way, of its kind, site and line, and there are no others: of each name of a message
-// a table says how many have it, and there are as many messages as entries.
+// What tells whether each pend entry has exactly one message under way, of its kind, site and line, and there are no others: a table that says
+// of each name how many messages have it, and how many messages and entries there are.
 ghost use mathlib.Core.Path.{_≡_};
 ghost use Prim.Native.Nat.{ℕ, _+_, _≤_, _<_};
 ghost use lib.ListN.{getD, replicate, take};

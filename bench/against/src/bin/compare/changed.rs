@@ -116,5 +116,5 @@ fn go_on(state: &System, draws: &mut Draws) -> Same {
     }
     same("whether the state left is sound", (true, 1), (sound(&library), call::sound(&library)))?;
     let budget = draws.below(30) as usize;
-    compare_drain(&model, budget, 2 * budget)
+    compare_drain(&model, budget, 2 * budget).map(|_| ())
 }
