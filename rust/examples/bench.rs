@@ -2,31 +2,17 @@
 
 use mwb::{read_sizes, read_step, write_sizes, write_step, Answer, Instruction, Refusal, Sizes, Step, System, MOST_DRAIN};
 
-fn name(step: Step) -> &'static str {
-    match step {
-        Step::Issue { .. } => "issue",
-        Step::Retry(_) => "retry",
-        Step::Send(_) => "send",
-        Step::ArriveMemory(_) => "arrive-memory",
-        Step::Serve => "serve",
-        Step::SendBack => "send-back",
-        Step::ArriveSite(_) => "arrive-site",
-        Step::Take(_) => "take",
-    }
-}
-
 /// The number, and the processor's answer if there is one.
 fn given(given: Result<Option<Answer>, Refusal>) -> String {
     match given {
         Ok(None) => "0".into(),
-        Ok(Some(Answer::Loaded { site, tag, value })) => format!("0 answer {site} {tag} {value}"),
-        Ok(Some(Answer::Acknowledged { site, tag })) => format!("0 answer {site} {tag} ack"),
+        Ok(Some(answer)) => format!("0 {answer}"),
         Err(why) => why.number().to_string(),
     }
 }
 
 fn step(system: &mut System, step: Step) {
-    println!("{} {}", name(step), given(system.step(step)));
+    println!("{} {}", step.name(), given(system.step(step)));
 }
 
 fn issue(system: &mut System, site: u32, tag: u32, instruction: Instruction) {

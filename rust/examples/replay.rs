@@ -6,27 +6,13 @@ use std::io::{self, Read, Write};
 /// A pend entry of this kind is voluntary.
 const VOLUNTARY: u8 = 4;
 
-fn name(step: Step) -> &'static str {
-    match step {
-        Step::Issue { .. } => "issue",
-        Step::Retry(_) => "retry",
-        Step::Send(_) => "send",
-        Step::ArriveMemory(_) => "arrive-memory",
-        Step::Serve => "serve",
-        Step::SendBack => "send-back",
-        Step::ArriveSite(_) => "arrive-site",
-        Step::Take(_) => "take",
-    }
-}
-
 fn step_line(count: usize, step: Step, given: Result<Option<Answer>, Refusal>) -> String {
     let given = match given {
         Ok(None) => "0".into(),
-        Ok(Some(Answer::Loaded { site, tag, value })) => format!("0 answer {site} {tag} {value}"),
-        Ok(Some(Answer::Acknowledged { site, tag })) => format!("0 answer {site} {tag} ack"),
+        Ok(Some(answer)) => format!("0 {answer}"),
         Err(why) => why.number().to_string(),
     };
-    format!("{count} {} {given}", name(step))
+    format!("{count} {} {given}", step.name())
 }
 
 /// "Outstanding means in the stall queue or in a pend entry that is not voluntary."

@@ -2,12 +2,23 @@
 
 use crate::raw;
 use crate::record::MOST_BYTES;
+use std::fmt;
 
 /// What the processor of a site is told: "a value for Loadl or an acknowledgement for the rest".
 #[derive(Clone, Copy, Debug, PartialEq, Eq)]
 pub enum Answer {
     Loaded { site: u32, tag: u32, value: u32 },
     Acknowledged { site: u32, tag: u32 },
+}
+
+/// As replay prints it: "`answer`, site, tag, then the value or `ack`".
+impl fmt::Display for Answer {
+    fn fmt(&self, out: &mut fmt::Formatter) -> fmt::Result {
+        match self {
+            Answer::Loaded { site, tag, value } => write!(out, "answer {site} {tag} {value}"),
+            Answer::Acknowledged { site, tag } => write!(out, "answer {site} {tag} ack"),
+        }
+    }
 }
 
 /// Why a call did nothing.

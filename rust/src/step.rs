@@ -58,6 +58,20 @@ pub enum Step {
 }
 
 impl Step {
+    /// As replay prints it.
+    pub fn name(self) -> &'static str {
+        match self {
+            Step::Issue { .. } => "issue",
+            Step::Retry(_) => "retry",
+            Step::Send(_) => "send",
+            Step::ArriveMemory(_) => "arrive-memory",
+            Step::Serve => "serve",
+            Step::SendBack => "send-back",
+            Step::ArriveSite(_) => "arrive-site",
+            Step::Take(_) => "take",
+        }
+    }
+
     /// Step, site or position, instruction, tag, first, second; 0 where it has none.
     pub(crate) fn numbers(self) -> Six {
         match self {

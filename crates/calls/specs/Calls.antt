@@ -10,7 +10,6 @@ use Rattle.model.specs.declared.After.{After}
 use Rattle.model.specs.declared.Drained.{Drained}
 use Rattle.model.specs.declared.Refusal.{Refusal}
 use Rattle.model.specs.declared.Refusal.the-variants.{NotSound, NoRecord}
-use Rattle.model.specs.declared.Outcome.the-variants.{Refused}
 use Rattle.model.specs.declared.ReadSizes.{ReadSizes}
 use Rattle.model.specs.declared.ReadSizes.the-variants.{Sized, NoSizes}
 use Rattle.model.specs.declared.ReadStep.{ReadStep}
@@ -18,7 +17,7 @@ use Rattle.model.specs.declared.ReadStep.the-variants.{One, End, NoStep}
 use Rattle.model.specs.declared.Wrote.{Wrote}
 use Rattle.model.specs.declared.Wrote.the-variants.{Past, NotWritten}
 use Rattle.model.specs.Given.{numberOf, placeGiven, given}
-use Rattle.model.specs.Fresh.{freshOf}
+use Rattle.model.specs.Fresh.{freshOf, refused}
 use Rattle.model.specs.Sound.{sound}
 use Rattle.model.specs.Steps.{stepped}
 use Rattle.model.specs.Drain.{Drain, drainOf}
@@ -38,6 +37,7 @@ flag b = cond b 1 0
 
 -- THE LENT SYSTEM
 
+-- 1 where the state is sound
 abbrev pub soundCall : System → ℕ
 soundCall s = flag (sound s)
 
@@ -48,20 +48,19 @@ steppedBy g s = record { given = g; system = s }
 abbrev pub numbered : After → Stepped
 numbered a = steppedBy (given (a .outcome)) (a .system)
 
+-- a fresh system of six sizes, whatever these are
 unfoldable pub freshCall : ℕ → ℕ → ℕ → ℕ → ℕ → ℕ → Stepped
 freshCall sites words lines sets pend stall = numbered (freshOf (sizesOf (sites ∷ words ∷ lines ∷ sets ∷ pend ∷ stall ∷ [])))
 
--- Numbers that name no step are refused with 10, the place counting the numbers; the lowest number first.
-abbrev pub unnamedWhy : Bool → ℕ → Refusal
-unnamedWhy isSound place = cond isSound (NoRecord place) NotSound
-
+-- Numbers that name no step are refused with 10, the place counting the numbers; the lowest number first, so 1 before it.
 abbrev pub unnamed : System → ℕ → After
-unnamed s place = record { outcome = Refused (unnamedWhy (sound s) place); system = s }
+unnamed s place = refused (cond (sound s) (NoRecord place) NotSound) s
 
 unfoldable pub stepNamed : System → Named → Stepped
 stepNamed s (Known x) = numbered (stepped s x)
 stepNamed s (Unknown place) = numbered (unnamed s place)
 
+-- the step that six numbers name
 abbrev pub stepCall : System → ℕ → ℕ → ℕ → ℕ → ℕ → ℕ → Stepped
 stepCall s k i n t a b = stepNamed s (namedBy k i n t a b)
 
