@@ -1,6 +1,6 @@
 -- States that are not sound, one clause of document 01's paragraph broken in each.
 use mathlib.Core.List.{List, [], _∷_, _++_}
-use mathlib.Core.Bool.{true, cond}
+use mathlib.Core.Bool.{Bool, true, false, cond}
 use Prim.Native.Nat.{ℕ}
 use lib.Dec.{eqb}
 use lib.ListN.{set}
@@ -16,7 +16,7 @@ use Rattle.model.specs.declared.Instruction.the-variants.{Loadl, Storel,
 use Rattle.model.specs.declared.Step.the-variants.{Issue, Send, Serve}
 use Rattle.model.specs.Fresh.{noValues, noMarks, noSiteQueue}
 use Rattle.model.specs.Parts.{siteAt, putSite, withCache, withPends, withStalls, withOutgoing, withIncoming, sitePut, netPut, netRest, withMemory, withNets}
-use Rattle.model.specs.Sampling.{done, value, ack, no, Act, Sample, sized, run, _⇒_, trip, unsound}
+use Rattle.model.specs.Sampling.{done, value, ack, no, Act, Sample, sized, run, _⇒_, trip, unsound, remains}
 
 abbrev pub withSizes : Sizes → System → System
 withSizes z s = record {
@@ -49,15 +49,15 @@ abbrev pub moved : ℕ → Message → System → System
 moved k m s = added k m (withNets s (netRest (s .up) 1) (s .arrived) (s .served) (s .down))
 
 -- what is put at a place of a site
-abbrev pub withWaiting : ℕ → Waiting → System → System
-withWaiting k w s = putSite s 0 (withStalls (siteAt s 0) (siteAt s 0 .stalls) (set (siteAt s 0 .waiting) k w))
+abbrev pub withWaiting : ℕ → ℕ → Waiting → System → System
+withWaiting i k w s = putSite s i (withStalls (siteAt s i) (siteAt s i .stalls) (set (siteAt s i .waiting) k w))
 
 abbrev pub withEntry : ℕ → ℕ → Entry → System → System
 withEntry i k e s = putSite s i (withPends (siteAt s i) (siteAt s i .pends) (set (siteAt s i .entries) k e))
 
-abbrev pub withGoing : ℕ → Message → System → System
-withGoing k m s =
-    putSite s 0 (withOutgoing (siteAt s 0) (record { items = set (siteAt s 0 .outgoing .items) k m; count = siteAt s 0 .outgoing .count }))
+abbrev pub withGoing : ℕ → ℕ → Message → System → System
+withGoing i k m s =
+    putSite s i (withOutgoing (siteAt s i) (record { items = set (siteAt s i .outgoing .items) k m; count = siteAt s i .outgoing .count }))
 
 abbrev pub withPlace : ℕ → ℕ → Place → System → System
 withPlace i k p s = putSite s i (withCache (siteAt s i) (set (siteAt s i .cache) k (record { low = p })))
@@ -79,12 +79,33 @@ pends kind line word tag v vs = record { kind = kind; line = line; word = word; 
 abbrev pub says : ℕ → ℕ → ℕ → List ℕ → Message
 says kind i line vs = record { kind = kind; site = i; line = line; dirty = noMarks; values = vs }
 
+abbrev pub marking : List Bool → Message → Message
+marking ds m = record { kind = m .kind; site = m .site; line = m .line; dirty = ds; values = m .values }
+
 -- with its first word marked Dirty
 abbrev pub marked : Message → Message
-marked m = record { kind = m .kind; site = m .site; line = m .line; dirty = set (m .dirty) 0 true; values = m .values }
+marked m = marking (set noMarks 0 true) m
+
+abbrev pub holding : Bool → ℕ → List Bool → List ℕ → Place
+holding used L ds vs = record { used = used; line = L; dirty = ds; values = vs }
 
 abbrev pub clean : ℕ → List ℕ → Place
-clean L vs = record { used = true; line = L; dirty = noMarks; values = vs }
+clean L vs = holding true L noMarks vs
+
+-- with a word past the line's two, or the mark of one
+abbrev pub fourth : List ℕ
+fourth = 0 ∷ 0 ∷ 0 ∷ 1 ∷ []
+
+abbrev pub fourthMarked : List Bool
+fourthMarked = set noMarks 3 true
+
+-- site 0's second entry, and its message in the outgoing queue
+abbrev pub writing : Message → Entry → System → System
+writing m e s = withGoing 0 0 m (withEntry 0 1 e s)
+
+-- site 1's entry is voluntary, and the answer to its write-back is in the down network
+abbrev pub acknowledging : Message → System → System
+acknowledging m s = moved 3 m (withEntry 1 0 (pends 4 3 0 0 0 noValues) s)
 
 -- Site 0 has line 1 with a Dirty word, its fetch for line 2 not yet sent, and Loadl(1) and Commit(1) waiting. Its fetch for line 0 and site 1's for
 -- line 3 are in the up network.
@@ -101,36 +122,59 @@ soundSamples =
     unsound (withSizes (sized 1 2 4 2 2 2)) ∷ unsound (withSizes (sized 2 2 3 2 2 2)) ∷ unsound (withSizes (sized 2 1 4 2 2 2)) ∷ [])) ∷
     -- no fence waits, addresses are in range, places and fields not in use hold 0, tags differ
     run (sized 2 2 4 2 2 2) (busy ++ (
-    unsound (withWaiting 0 (waits 4 0 1 3 0)) ∷ unsound (withWaiting 0 (waits 0 4 1 3 0)) ∷ unsound (withWaiting 0 (waits 0 0 2 3 0)) ∷
-    unsound (withWaiting 0 (waits 0 0 1 3 1)) ∷ unsound (withWaiting 2 (waits 0 0 0 1 0)) ∷ unsound (withWaiting 0 (waits 0 0 1 4 0)) ∷
-    unsound (withWaiting 0 (waits 0 0 1 2 0)) ∷ Serve ⇒ no 8 ∷ [])) ∷
+    unsound (withWaiting 0 0 (waits 4 0 1 3 0)) ∷ unsound (withWaiting 0 0 (waits 0 4 1 3 0)) ∷ unsound (withWaiting 0 0 (waits 0 0 2 3 0)) ∷
+    unsound (withWaiting 0 0 (waits 0 0 1 3 1)) ∷ unsound (withWaiting 0 2 (waits 0 0 0 1 0)) ∷ unsound (withWaiting 0 0 (waits 0 0 1 4 0)) ∷
+    unsound (withWaiting 0 0 (waits 0 0 1 2 0)) ∷ Serve ⇒ no 8 ∷ [])) ∷
     run (sized 2 2 4 2 2 2) (busy ++ (
     unsound (withEntry 0 1 (pends 0 2 2 5 0 noValues)) ∷ unsound (withEntry 0 1 (pends 0 2 0 5 1 noValues)) ∷
     unsound (withEntry 0 1 (pends 0 2 0 5 0 (1 ∷ 0 ∷ 0 ∷ 0 ∷ []))) ∷ unsound (withEntry 0 1 (pends 0 2 0 2 0 noValues)) ∷
     unsound (withEntry 0 2 (pends 0 0 0 1 0 noValues)) ∷ unsound (withEntry 2 0 (pends 0 0 0 1 0 noValues)) ∷
     unsound (withEntry 0 1 (pends 5 2 0 5 0 noValues)) ∷ unsound (withEntry 0 1 (pends 3 2 0 5 0 noValues)) ∷
-    unsound (λ s. withGoing 0 (says 1 0 2 noValues) (withEntry 0 1 (pends 4 2 0 1 0 noValues) s)) ∷ Serve ⇒ no 8 ∷ [])) ∷
-    -- a site past the sizes has nothing in use
+    unsound (writing (says 1 0 2 noValues) (pends 4 2 0 1 0 noValues)) ∷ Serve ⇒ no 8 ∷ [])) ∷
+    -- each field of a place not in use holds 0
+    run (sized 2 2 4 2 2 2) (busy ++ (
+    unsound (withGoing 0 1 (says 1 0 0 noValues)) ∷ unsound (withGoing 0 1 (says 0 1 0 noValues)) ∷ unsound (withGoing 0 1 (says 0 0 0 fourth)) ∷
+    unsound (withGoing 0 1 (marked (says 0 0 0 noValues))) ∷ unsound (withEntry 0 2 (pends 1 0 0 0 0 noValues)) ∷
+    unsound (withEntry 0 2 (pends 0 1 0 0 0 noValues)) ∷ unsound (withEntry 0 2 (pends 0 0 1 0 0 noValues)) ∷
+    unsound (withEntry 0 2 (pends 0 0 0 0 1 noValues)) ∷ unsound (withEntry 0 2 (pends 0 0 0 0 0 fourth)) ∷ unsound (withWaiting 0 2 (waits 1 0 0 0 0)) ∷
+    unsound (withWaiting 0 2 (waits 0 1 0 0 0)) ∷ unsound (withWaiting 0 2 (waits 0 0 1 0 0)) ∷ unsound (withWaiting 0 2 (waits 0 0 0 0 1)) ∷
+    unsound (withPlace 0 0 (holding false 2 noMarks noValues)) ∷ unsound (withPlace 0 0 (holding false 0 noMarks fourth)) ∷
+    unsound (withPlace 0 0 (holding false 0 fourthMarked noValues)) ∷ Serve ⇒ no 8 ∷ [])) ∷
+    -- so does each field that the kind has no use for, and each word past the line's words
+    run (sized 2 2 4 2 2 2) (busy ++ (
+    unsound (withWaiting 0 1 (waits 2 0 1 4 1)) ∷ unsound (withWaiting 0 1 (waits 3 0 1 4 1)) ∷
+    remains (writing (says 1 0 2 noValues) (pends 2 2 1 5 0 (1 ∷ 2 ∷ 0 ∷ 0 ∷ []))) ∷ unsound (writing (says 1 0 2 noValues) (pends 2 2 1 5 0 fourth)) ∷
+    unsound (writing (says 1 0 2 noValues) (pends 2 2 1 5 1 noValues)) ∷ remains (writing (says 1 0 2 noValues) (pends 3 2 1 5 0 noValues)) ∷
+    unsound (writing (says 1 0 2 noValues) (pends 3 2 1 5 1 noValues)) ∷ unsound (writing (says 1 0 2 noValues) (pends 3 2 1 5 0 (1 ∷ 0 ∷ 0 ∷ 0 ∷ []))) ∷
+    remains (writing (says 1 0 2 noValues) (pends 4 2 0 0 0 noValues)) ∷ unsound (writing (says 1 0 2 noValues) (pends 4 2 1 0 0 noValues)) ∷
+    unsound (writing (says 1 0 2 noValues) (pends 4 2 0 0 1 noValues)) ∷ unsound (writing (says 1 0 2 noValues) (pends 4 2 0 0 0 (1 ∷ 0 ∷ 0 ∷ 0 ∷ []))) ∷
+    remains (writing (marked (says 1 0 2 (1 ∷ 2 ∷ 0 ∷ 0 ∷ []))) (pends 4 2 0 0 0 noValues)) ∷
+    unsound (writing (says 1 0 2 fourth) (pends 4 2 0 0 0 noValues)) ∷ unsound (writing (marking fourthMarked (says 1 0 2 noValues)) (pends 4 2 0 0 0 noValues)) ∷
+    remains (moved 3 (says 2 1 3 (1 ∷ 2 ∷ 0 ∷ 0 ∷ []))) ∷ unsound (moved 3 (says 2 1 3 fourth)) ∷
+    remains (acknowledging (says 3 1 3 noValues)) ∷ unsound (acknowledging (says 3 1 3 (1 ∷ 0 ∷ 0 ∷ 0 ∷ []))) ∷ unsound (acknowledging (marked (says 3 1 3 noValues))) ∷
+    unsound (withPlace 0 1 (holding true 1 fourthMarked noValues)) ∷ Serve ⇒ no 8 ∷ [])) ∷
+    -- a site past the sizes has nothing in use, and its places hold 0
     run (sized 2 2 4 2 2 2) (
     unsound (λ s. putSite s 2 (withPends (siteAt s 2) 1 (siteAt s 2 .entries))) ∷ unsound (λ s. putSite s 2 (withStalls (siteAt s 2) 1 (siteAt s 2 .waiting))) ∷
+    unsound (withWaiting 2 0 (waits 0 0 0 1 0)) ∷ unsound (withGoing 3 0 (says 0 0 1 noValues)) ∷
     unsound (withQueues 3 (counting 1) noSiteQueue) ∷ unsound (withQueues 3 noSiteQueue (counting 1)) ∷ Serve ⇒ no 8 ∷ []) ∷
     -- each cached line is in its set; no line is both cached and pending; no two entries for one line
     run (sized 2 2 4 2 2 2) (busy ++ (
     unsound (withPlace 0 0 (clean 1 noValues)) ∷ unsound (withPlace 0 0 (clean 0 noValues)) ∷ unsound (withPlace 0 2 (clean 2 noValues)) ∷
     unsound (withPlace 0 1 (clean 1 (0 ∷ 0 ∷ 1 ∷ 0 ∷ []))) ∷ unsound (withPlace 0 1 (clean 5 noValues)) ∷ unsound (withPlace 3 0 (clean 0 noValues)) ∷
-    unsound (λ s. withGoing 0 (says 1 0 0 noValues) (withEntry 0 1 (pends 4 0 0 0 0 noValues) s)) ∷
+    unsound (λ s. withGoing 0 0 (says 1 0 0 noValues) (withEntry 0 1 (pends 4 0 0 0 0 noValues) s)) ∷
     unsound (withLine 0 (0 ∷ 0 ∷ 1 ∷ 0 ∷ [])) ∷ unsound (withLine 4 (1 ∷ 0 ∷ 0 ∷ 0 ∷ [])) ∷ Serve ⇒ no 8 ∷ [])) ∷
     -- each pend entry has exactly one message under way, of its kind, site and line, and there are no others
     run (sized 2 2 4 2 2 2) (busy ++ (
-    unsound (withGoing 0 (says 1 0 2 noValues)) ∷ unsound (withGoing 0 (says 0 1 2 noValues)) ∷ unsound (withGoing 0 (says 0 0 3 noValues)) ∷
-    unsound (withGoing 0 (says 0 0 0 noValues)) ∷ unsound (withGoing 0 (says 0 0 2 (1 ∷ 0 ∷ 0 ∷ 0 ∷ []))) ∷
-    unsound (withGoing 0 (marked (says 0 0 2 noValues))) ∷ unsound (moved 3 (marked (says 2 1 3 noValues))) ∷
-    unsound (withGoing 1 (says 0 0 1 noValues)) ∷ unsound (withQueues 0 noSiteQueue noSiteQueue) ∷ unsound (moved 4 (says 0 1 3 noValues)) ∷
+    unsound (withGoing 0 0 (says 1 0 2 noValues)) ∷ unsound (withGoing 0 0 (says 0 1 2 noValues)) ∷ unsound (withGoing 0 0 (says 0 0 3 noValues)) ∷
+    unsound (withGoing 0 0 (says 0 0 0 noValues)) ∷ unsound (withGoing 0 0 (says 0 0 2 (1 ∷ 0 ∷ 0 ∷ 0 ∷ []))) ∷
+    unsound (withGoing 0 0 (marked (says 0 0 2 noValues))) ∷ unsound (moved 3 (marked (says 2 1 3 noValues))) ∷
+    unsound (withGoing 0 1 (says 0 0 1 noValues)) ∷ unsound (withQueues 0 noSiteQueue noSiteQueue) ∷ unsound (moved 4 (says 0 1 3 noValues)) ∷
     unsound (added 0 (says 0 1 3 noValues)) ∷ unsound (added 0 (says 0 1 1 noValues)) ∷ Serve ⇒ no 8 ∷ [])) ∷
     -- requests stand only on the way to memory, replies only on the way back; a site's two queues hold messages of that site alone
     run (sized 2 2 4 2 2 2) (busy ++ (
     unsound (moved 0 (says 2 1 3 noValues)) ∷ unsound (moved 1 (says 2 1 3 noValues)) ∷ unsound (moved 2 (says 0 1 3 noValues)) ∷
-    unsound (moved 3 (says 0 1 3 noValues)) ∷ unsound (moved 3 (says 4 1 3 noValues)) ∷ unsound (withGoing 0 (says 2 0 2 noValues)) ∷
+    unsound (moved 3 (says 0 1 3 noValues)) ∷ unsound (moved 3 (says 4 1 3 noValues)) ∷ unsound (withGoing 0 0 (says 2 0 2 noValues)) ∷
     unsound (withQueues 0 noSiteQueue (sitePut noSiteQueue (says 0 0 2 noValues))) ∷
     unsound (λ s. withQueues 1 (sitePut noSiteQueue (says 0 0 2 noValues)) noSiteQueue (withQueues 0 noSiteQueue noSiteQueue s)) ∷
     Serve ⇒ no 8 ∷ [])) ∷

@@ -104,8 +104,9 @@ pub data Act : Type 0 where
   shows : (System → List ℕ) → List ℕ → Act
   -- a drain with a budget and a buffer gives number, count, quiet and length, and leaves a buffer
   drains : ℕ → List ℕ → List ℕ → List ℕ → Act
-  -- the state with some part put anew is not sound
+  -- the state with some part put anew is not sound, or still is; memory has nothing to serve in it
   unsound : (System → System) → Act
+  remains : (System → System) → Act
 
 infix 68 _⇒_
 -- whether all gave what they should, and the state after
@@ -134,6 +135,7 @@ ran s (trip i ns) =
 ran s (shows f ns) = record { right = sameNumbers (f s) ns; system = s }
 ran s (drains budget buf ns after) = drainRan (drainOf s budget buf) ns after
 ran s (unsound f) = record { right = ranBy (stepped (f s) Serve) (no 1) .right; system = s }
+ran s (remains f) = record { right = ranBy (stepped (f s) Serve) (no 8) .right; system = s }
 
 -- PARTS OF A STATE
 
