@@ -1,11 +1,11 @@
 -- Document 01, "Handling" (001, rules C1 to C41): which action the rules take, and what the action does. The source's inner messages are one
 -- step here: C1, C11, C21 and C33 ask the cache, and C19, C31 and C41 hear from it.
-use mathlib.Core.List.{List, [], _∷_}
+use mathlib.Core.List.{List}
 use mathlib.Core.Bool.{Bool, true, false, not, _&&_, _||_, cond}
 use Prim.Native.Nat.{ℕ, _+_}
 use lib.Dec.{leb, eqb}
 use lib.ListN.{getD, set}
-use Rattle.lists.specs.Places.{noneOf}
+use Rattle.lists.specs.Places.{noneOf, each}
 use Rattle.model.specs.declared.Sizes.{Sizes}
 use Rattle.model.specs.declared.Message.{Message}
 use Rattle.model.specs.declared.Entry.{Entry}
@@ -25,9 +25,8 @@ use Rattle.model.specs.Sets.{holds, seat, without, anew, setNumber, setO
 -- WHAT THE RULES TEST
 
 -- no mark is Dirty
-unfoldable pub allClean : List Bool → Bool
-allClean [] = true
-allClean (m ∷ ms) = not m && allClean ms
+abbrev pub allClean : List Bool → Bool
+allClean marks = each not marks
 
 -- no entry is for the line
 abbrev pub lineFree : Site → ℕ → Bool

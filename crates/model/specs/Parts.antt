@@ -17,7 +17,7 @@ use Rattle.model.specs.declared.Line.{Line}
 use Rattle.model.specs.declared.System.{System}
 use Rattle.model.specs.Fresh.{noMessage}
 
--- WHAT A READ PAST AN ARRAY'S END GIVES: numbers 0 and arrays empty, as the language has it; no definition reads there
+-- WHAT A READ PAST AN ARRAY'S END GIVES: numbers 0 and arrays empty, as the language has it; of a sound state no definition reads there
 
 abbrev pub pastMessage : Message
 pastMessage = record { kind = 0; site = 0; line = 0; dirty = []; values = [] }
@@ -167,65 +167,33 @@ netRest q p = record { items = removed noMessage p (q .items); count = q .count 
 
 -- THE SYSTEM WITH A PART PUT ANEW
 
-abbrev pub withMemory : System → List Line → System
-withMemory s m = record {
+-- memory, the sites' outgoing and incoming queues, the up network, memory's incoming and outgoing queues, the down network
+abbrev pub carried : System → List Line → List SiteQueue → List SiteQueue → Queue → Queue → Queue → Queue → System
+carried s m o n u a v d = record {
   sizes = s .sizes;
   memory = m;
   caches = s .caches;
   pends = s .pends;
   stalls = s .stalls;
-  outgoing = s .outgoing;
-  incoming = s .incoming;
-  up = s .up;
-  arrived = s .arrived;
-  served = s .served;
-  down = s .down;
-}
-
--- the outgoing queue of site i
-abbrev pub withOut : System → ℕ → SiteQueue → System
-withOut s i q = record {
-  sizes = s .sizes;
-  memory = s .memory;
-  caches = s .caches;
-  pends = s .pends;
-  stalls = s .stalls;
-  outgoing = set (s .outgoing) i q;
-  incoming = s .incoming;
-  up = s .up;
-  arrived = s .arrived;
-  served = s .served;
-  down = s .down;
-}
-
--- the incoming queue of site i
-abbrev pub withIn : System → ℕ → SiteQueue → System
-withIn s i q = record {
-  sizes = s .sizes;
-  memory = s .memory;
-  caches = s .caches;
-  pends = s .pends;
-  stalls = s .stalls;
-  outgoing = s .outgoing;
-  incoming = set (s .incoming) i q;
-  up = s .up;
-  arrived = s .arrived;
-  served = s .served;
-  down = s .down;
-}
-
--- the up network, memory's incoming and outgoing queues, the down network
-abbrev pub withNets : System → Queue → Queue → Queue → Queue → System
-withNets s u a v d = record {
-  sizes = s .sizes;
-  memory = s .memory;
-  caches = s .caches;
-  pends = s .pends;
-  stalls = s .stalls;
-  outgoing = s .outgoing;
-  incoming = s .incoming;
+  outgoing = o;
+  incoming = n;
   up = u;
   arrived = a;
   served = v;
   down = d;
 }
+
+abbrev pub withMemory : System → List Line → System
+withMemory s m = carried s m (s .outgoing) (s .incoming) (s .up) (s .arrived) (s .served) (s .down)
+
+-- the outgoing queue of site i
+abbrev pub withOut : System → ℕ → SiteQueue → System
+withOut s i q = carried s (s .memory) (set (s .outgoing) i q) (s .incoming) (s .up) (s .arrived) (s .served) (s .down)
+
+-- the incoming queue of site i
+abbrev pub withIn : System → ℕ → SiteQueue → System
+withIn s i q = carried s (s .memory) (s .outgoing) (set (s .incoming) i q) (s .up) (s .arrived) (s .served) (s .down)
+
+-- the up network, memory's incoming and outgoing queues, the down network
+abbrev pub withNets : System → Queue → Queue → Queue → Queue → System
+withNets s u a v d = carried s (s .memory) (s .outgoing) (s .incoming) u a v d

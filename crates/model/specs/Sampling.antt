@@ -44,7 +44,7 @@ use Rattle.model.specs.Sound.{freeMessage, freeEntry, freeWaiting, carri
 use Rattle.model.specs.Sound.{memoryFits, cacheFits, cachedApart, tagsDiffer, siteQueueFits, ownFits, siteFits, freeSite, fourSites, sitesFit}
 use Rattle.model.specs.Sound.{underWay, exactlyOne, noOthers, messagesFit, sound}
 use Rattle.model.specs.Issue.{kindOf, firstAddress, lastAddress, valueOf, addressesFit, tagFree, blocks, mayIssue}
-use Rattle.model.specs.Handling.{allClean, missed, onLoadl, onStorel, absent, onCommit, onReconcile, decided, performed}
+use Rattle.model.specs.Handling.{missed, onLoadl, onStorel, absent, onCommit, onReconcile, decided, performed}
 use Rattle.model.specs.Serve.{merged, memoryAfter, replyTo}
 use Rattle.model.specs.Take.{settled, taken}
 
@@ -223,7 +223,7 @@ unfolding
     allBelow sumBelow upFrom fits array weigh unlike removed firstAt count each some allOf encoded above decoded limited readNumber inLimits freshOf
     wordsFit marksFit freePlace placeFits setFits freeSet seat displaced placed without anew freeMessage freeEntry freeWaiting carries messageFits
     queueFits waitingFits stallsFit entryFits pendsFit memoryFits cacheFits cachedApart tagsDiffer siteQueueFits ownFits siteFits freeSite fourSites
-    sitesFit underWay exactlyOne noOthers messagesFit sound kindOf firstAddress lastAddress valueOf addressesFit tagFree blocks mayIssue allClean missed
+    sitesFit underWay exactlyOne noOthers messagesFit sound kindOf firstAddress lastAddress valueOf addressesFit tagFree blocks mayIssue missed
     onLoadl onStorel absent onCommit onReconcile decided performed merged memoryAfter replyTo settled taken entered issuedAt issued resumed retriedAt
     retried afterSend sentFrom sent afterArriveMemory arrivedMemory afterServe serveStep afterSendBack sentBack afterArriveSite arrivedSite tookAt took
     stepOf stepped outstandingAt outstandingLeft numberOf placeGiven answerGiven refusalGiven given bytesOfAll operands numbersOf stepsBytes consed

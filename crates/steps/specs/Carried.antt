@@ -1,17 +1,14 @@
 -- What comes of a step that carries a message on, in the words of the definitions.
-use mathlib.Core.List.{List}
 use mathlib.Core.Bool.{cond}
 use Prim.Native.Nat.{ℕ}
 use lib.Dec.{ltb}
-use Rattle.model.specs.declared.Line.{Line}
-use Rattle.model.specs.declared.SiteQueue.{SiteQueue}
 use Rattle.model.specs.declared.Queue.{Queue}
 use Rattle.model.specs.declared.System.{System}
 use Rattle.model.specs.declared.After.{After}
 use Rattle.model.specs.declared.Answer.the-variants.{Nothing}
 use Rattle.model.specs.declared.Refusal.the-variants.{NothingThere}
 use Rattle.model.specs.declared.Outcome.the-variants.{Done, Refused}
-use Rattle.model.specs.Parts.{netPut, netAt, netRest}
+use Rattle.model.specs.Parts.{netPut, netAt, netRest, carried}
 use Rattle.steps.specs.declared.hops.Moved.{Moved}
 use Rattle.steps.specs.declared.hops.Sent.{Sent}
 use Rattle.steps.specs.declared.hops.Served.{Served}
@@ -22,22 +19,6 @@ abbrev pub hopped : Queue → ℕ → Queue → Moved
 hopped q p r =
     cond (ltb p (q .count)) (record { outcome = Done Nothing; from = netRest q p; to = netPut r (netAt q p) })
     (record { outcome = Refused NothingThere; from = q; to = r })
-
--- the system with memory, the sites' outgoing and incoming queues, the networks and memory's queues anew
-abbrev pub carried : System → List Line → List SiteQueue → List SiteQueue → Queue → Queue → Queue → Queue → System
-carried s m o n u a v d = record {
-  sizes = s .sizes;
-  memory = m;
-  caches = s .caches;
-  pends = s .pends;
-  stalls = s .stalls;
-  outgoing = o;
-  incoming = n;
-  up = u;
-  arrived = a;
-  served = v;
-  down = d;
-}
 
 abbrev pub sentOf : System → Sent → After
 sentOf s h = record { outcome = h .outcome; system = carried s (s .memory) (h .outgoing) (s .incoming) (h .up) (s .arrived) (s .served) (s .down) }

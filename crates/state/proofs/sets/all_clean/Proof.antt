@@ -3,6 +3,7 @@ use mathlib.Core.List.{[], _∷_}
 use mathlib.Core.Bool.{Bool, true, false, not, _&&_}
 use borrow.Author.Needs.{needs}
 use lib.ListN.{length}
+use Rattle.lists.specs.Places.{each}
 use Rattle.lists.proofs.Long.{four}
 use Rattle.model.specs.Handling.{allClean}
 use Rattle.state.proofs.sets.all_clean.Statement.{statement}
@@ -21,7 +22,7 @@ array-read-result-4 : tie.Need-array-read-result-4
 array-read-result-4 c = search needs
 
 clean-four : (a b c d : Bool) → not a && not b && not c && not d ≡ allClean (a ∷ b ∷ c ∷ d ∷ [])
-unfolding allClean
+unfolding each
 clean-four true b c d = refl
 clean-four false true c d = refl
 clean-four false false true d = refl
