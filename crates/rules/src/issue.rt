@@ -131,7 +131,7 @@ fn in_the_way(kind: u8, line: u8, word: u8, later: Waiting) -> bool
 }
 
 // At one address, the later kind cannot pass the earlier.
-pub fn cannot_pass(earlier: u8, later: u8) -> bool
+fn cannot_pass(earlier: u8, later: u8) -> bool
     ensures { λ r. ⌜ r ≡ blocks earlier later ⌝ }
 {
     ((earlier == 0) & ((later == 1) | (later == 4) | (later == 5)))

@@ -67,7 +67,6 @@ use Rattle.rules.proofs.issue.take_apart as take-apart
 use Rattle.rules.proofs.issue.address_fits as address-fits
 use Rattle.rules.proofs.issue.tag_free as tag-free
 use Rattle.rules.proofs.issue.may_pass as may-pass
-use Rattle.rules.proofs.issue.cannot_pass as cannot-pass
 use Rattle.rules.proofs.memory.line_after as line-after
 use Rattle.rules.proofs.memory.reply_to as reply-to
 use Rattle.sound.proofs.is_sound as is-sound
@@ -279,9 +278,6 @@ module _ {M : Type 1} (𝓤 : URA M) (H : Heap 𝓤) (A : Atoms 𝓤) (mem : Mem
 
   may-pass-only : Only may-pass.ended (may-pass.clauses 𝓤 H A mem run) (λ κs. nothing)
   may-pass-only κs a g r r′ e e′ known = only same nothing
-
-  cannot-pass-only : Only cannot-pass.ended (cannot-pass.clauses 𝓤 H A mem run) (λ κs. nothing)
-  cannot-pass-only κs a g r r′ e e′ known = only same nothing
 
   line-after-only : Only line-after.ended (line-after.clauses 𝓤 H A mem run) (λ κs. nothing)
   line-after-only κs a g r r′ e e′ known = only same nothing
