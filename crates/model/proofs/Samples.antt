@@ -61,7 +61,7 @@ replay-hold = refl ▸ refl ▸ refl ▸ refl ▸ refl ▸ refl ▸ refl ▸ ref
 
 sound-hold : EachHolds soundSamples
 unfolding holds soundSamples
-sound-hold = refl ▸ refl ▸ refl ▸ refl ▸ refl ▸ refl ▸ refl ▸ refl ▸ refl ▸ end
+sound-hold = refl ▸ refl ▸ refl ▸ refl ▸ refl ▸ refl ▸ refl ▸ refl ▸ refl ▸ refl ▸ refl ▸ end
 
 all-hold : (xs ys : List Sample) → EachHolds xs → EachHolds ys → EachHolds (xs ++ ys)
 all-hold xs ys end b = b

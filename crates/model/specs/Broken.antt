@@ -164,6 +164,11 @@ soundSamples =
     unsound (withPlace 0 1 (clean 1 (0 ∷ 0 ∷ 1 ∷ 0 ∷ []))) ∷ unsound (withPlace 0 1 (clean 5 noValues)) ∷ unsound (withPlace 3 0 (clean 0 noValues)) ∷
     unsound (λ s. withGoing 0 0 (says 1 0 0 noValues) (withEntry 0 1 (pends 4 0 0 0 0 noValues) s)) ∷
     unsound (withLine 0 (0 ∷ 0 ∷ 1 ∷ 0 ∷ [])) ∷ unsound (withLine 4 (1 ∷ 0 ∷ 0 ∷ 0 ∷ [])) ∷ Serve ⇒ no 8 ∷ [])) ∷
+    -- line L lives in set L mod sets
+    run (sized 1 1 16 8 1 1) (
+    remains (withPlace 0 5 (clean 13 noValues)) ∷ unsound (withPlace 0 5 (clean 12 noValues)) ∷ unsound (withPlace 0 7 (clean 13 noValues)) ∷ Serve ⇒ no 8 ∷ []) ∷
+    run (sized 1 1 16 3 1 1) (
+    remains (withPlace 0 2 (clean 14 noValues)) ∷ unsound (withPlace 0 2 (clean 13 noValues)) ∷ remains (withPlace 0 1 (clean 10 noValues)) ∷ Serve ⇒ no 8 ∷ []) ∷
     -- each pend entry has exactly one message under way, of its kind, site and line, and there are no others
     run (sized 2 2 4 2 2 2) (busy ++ (
     unsound (withGoing 0 0 (says 1 0 2 noValues)) ∷ unsound (withGoing 0 0 (says 0 1 2 noValues)) ∷ unsound (withGoing 0 0 (says 0 0 3 noValues)) ∷
