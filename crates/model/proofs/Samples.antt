@@ -35,7 +35,7 @@ take-hold = refl ▸ refl ▸ refl ▸ refl ▸ refl ▸ refl ▸ refl ▸ refl 
 
 queue-hold : EachHolds queueSamples
 unfolding holds queueSamples
-queue-hold = refl ▸ refl ▸ refl ▸ end
+queue-hold = refl ▸ refl ▸ refl ▸ refl ▸ end
 
 drain-hold : EachHolds drainSamples
 unfolding holds drainSamples

@@ -238,7 +238,12 @@ queueSamples =
     shows downward (2 ∷ 1 ∷ 2 ∷ 2 ∷ 2 ∷ 3 ∷ 2 ∷ 0 ∷ 0 ∷ 2 ∷ 0 ∷ 1 ∷ []) ∷ ArriveSite 2 ⇒ done ∷ ArriveSite 2 ⇒ done ∷ ArriveSite 1 ⇒ done ∷
     shows downward (2 ∷ 1 ∷ 2 ∷ []) ∷ Take 1 ⇒ no 8 ∷ Take 2 ⇒ value 2 1 0 ∷ Take 0 ⇒ value 0 2 0 ∷ Take 0 ⇒ value 0 1 0 ∷ Take 0 ⇒ no 8 ∷
     ArriveSite 0 ⇒ done ∷ Take 1 ⇒ value 1 1 0 ∷ []) ∷
-    -- A fetch is answered with the line's words. Address a is word a mod words of line a / words.
+    -- Address a is word a mod words of line a / words, of three words too.
+    run (sized 1 3 5 2 1 1) (
+    Issue 0 1 (Storel 7 9) ⇒ done ∷ trip 0 (ack 0 1) ∷ Issue 0 2 (Loadl 6) ⇒ value 0 2 0 ∷ Issue 0 2 (Loadl 8) ⇒ value 0 2 0 ∷
+    Issue 0 2 (Commit 7) ⇒ done ∷ trip 0 (ack 0 2) ∷ shows (memoryLine 2) (0 ∷ 9 ∷ 0 ∷ 0 ∷ []) ∷ Issue 0 3 (Loadl 15) ⇒ no 4 ∷
+    Issue 0 3 (Loadl 14) ⇒ done ∷ shows (going 0) (0 ∷ 0 ∷ 4 ∷ []) ∷ []) ∷
+    -- A fetch is answered with the line's words.
     run (sized 2 4 2 1 1 1) (
     Issue 0 1 (Storel 4 1) ⇒ done ∷ trip 0 (ack 0 1) ∷ Issue 0 1 (Storel 6 3) ⇒ ack 0 1 ∷ Issue 0 1 (Storel 7 4294967295) ⇒ ack 0 1 ∷
     Issue 0 1 (Commit 6) ⇒ done ∷ trip 0 (ack 0 1) ∷ shows (memoryLine 1) (1 ∷ 0 ∷ 3 ∷ 4294967295 ∷ []) ∷
