@@ -50,8 +50,8 @@ enum mwb_number {
     MWB_NO_SUCH_SITE = 2,       /* no such site */
     MWB_ADDRESS_PAST_LAST = 4,  /* an address is past the last */
     MWB_TAG_OUTSTANDING = 5,    /* the tag is outstanding at this site */
-    MWB_MAY_NOT_ISSUE_YET = 6,  /* the instruction may not be issued yet */
-    MWB_STALL_QUEUE_FULL = 7,   /* it must wait and the stall queue is full */
+    MWB_MAY_NOT_ISSUE = 6,      /* the instruction may not be issued yet */
+    MWB_STALL_FULL = 7,         /* it must wait and the stall queue is full */
     MWB_NOTHING_THERE = 8,      /* the queue is empty, or no such position */
     MWB_MUST_STILL_WAIT = 9,    /* retry: the head must still wait */
     MWB_NO_RECORD = 10,         /* the bytes are no record, or the numbers no step; with a place */

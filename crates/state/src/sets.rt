@@ -1,4 +1,4 @@
-// A cache set, which has one place: where a line is in it, what a coming line displaces, and the set after. Only this file, and places.rt of crate sound, know how many places a set has.
+// A cache set, which has one place: where a line is in it, what a coming line displaces, and the set after. How many places a set has is known here, in places.rt of crate sound, and where a system is made.
 ghost use mathlib.Core.Path.{_≡_};
 ghost use Prim.Native.Nat.{_%_};
 ghost use Rattle.model.specs.Sets.{holds, setNumber, seat, displaced, placed, without, anew};
