@@ -196,9 +196,11 @@ abbrev pub netFits : Sizes → (ℕ → Bool) → Queue → Bool
 netFits z side q = queueFits 20 (z .pend * z .sites) (messageFits z side) (q .count) (q .items)
 
 -- Requests stand only in sites' outgoing queues, the up network and memory's incoming queue, replies only in the other three places.
-unfoldable pub sound : System → Bool
-sound s =
+abbrev pub partsFit : System → Bool
+partsFit s =
     inLimits (s .sizes) && memoryFits (s .sizes) (s .memory) && sitesFit s &&
     netFits (s .sizes) request (s .up) && netFits (s .sizes) request (s .arrived) &&
-    netFits (s .sizes) reply (s .served) && netFits (s .sizes) reply (s .down) &&
-    messagesFit s (underWay s)
+    netFits (s .sizes) reply (s .served) && netFits (s .sizes) reply (s .down)
+
+unfoldable pub sound : System → Bool
+sound s = partsFit s && messagesFit s (underWay s)

@@ -17,7 +17,8 @@ use Rattle.model.specs.Parts.{Site, siteAt}
 use Rattle.model.specs.Sound.{request, reply, ofSite, messageFits, queueFits, siteQueueFits, freeMessage, freeEntry, entryFits, underWay}
 use Rattle.promises.proofs.Balance.{inSite, total, isAt, asksAt, count-total}
 use Rattle.promises.proofs.Queues.{NetFits, queue-fits}
-use Rattle.promises.proofs.Sound.{Limits, limits, Sound, Ready, Vacant, ready-at, vacant-at, all-sited}
+use Rattle.promises.proofs.Sound.{Sound, all-sited}
+pub use Rattle.promises.proofs.Sound.{the-limits, ready, vacant, below-four}
 
 -- any line, on any trip
 abbrev pub anything : ℕ → ℕ → Bool
@@ -55,26 +56,14 @@ unfolding weigh
 none-counted f n xs e = rw e
 
 module _ (s : System) (h : Sound s) where
-  pub the-limits : Limits (s .sizes)
-  the-limits = limits (s .sizes) (h .sizes)
-
-  pub ready : (i : ℕ) → i < s .sizes .sites → Ready (s .sizes) i (siteAt s i)
-  ready i l = ready-at s the-limits (h .sites) i l
-
-  pub vacant : (i : ℕ) → i < 4 → s .sizes .sites ≤ i → Vacant (siteAt s i)
-  vacant i l k = vacant-at s the-limits (h .sites) i l k
-
-  pub below-four : (i : ℕ) → i < s .sizes .sites → i < 4
-  below-four i l = omega (arith, l, the-limits .sites-most)
-
   -- all messages of a site's own queues are of that site
   pub own-counted : (i : ℕ) → i < s .sizes .sites → inSite (isAt i anything) (siteAt s i) ≡ queued (siteAt s i)
   unfolding inSite siteQueueFits
   own-counted i l =
       omega (
         arith,
-        all-counted (isAt i anything) (ofSite (s .sizes) request i) (mine request) (siteAt s i .outgoing .count) (siteAt s i .outgoing .items) 5 (s .sizes .pend) (ready i l .out),
-        all-counted (isAt i anything) (ofSite (s .sizes) reply i) (mine reply) (siteAt s i .incoming .count) (siteAt s i .incoming .items) 5 (s .sizes .pend) (ready i l .inc),
+        all-counted (isAt i anything) (ofSite (s .sizes) request i) (mine request) (siteAt s i .outgoing .count) (siteAt s i .outgoing .items) 5 (s .sizes .pend) (ready s h i l .out),
+        all-counted (isAt i anything) (ofSite (s .sizes) reply i) (mine reply) (siteAt s i .incoming .count) (siteAt s i .incoming .items) 5 (s .sizes .pend) (ready s h i l .inc),
       )
     where
       mine : (side : ℕ → Bool) (m : Message) → T (ofSite (s .sizes) side i m) → T (isAt i anything m)
@@ -86,12 +75,12 @@ module _ (s : System) (h : Sound s) where
       h .balance i l anything ∙
       tally-all (asksAt anything) (siteAt s i .pends) (siteAt s i .entries)
       (fits-any (entryFits (s .sizes)) (asksAt anything) freeEntry (λ e t. tt) (siteAt s i .pends) (siteAt s i .entries)
-      (array-fits 5 (entryFits (s .sizes)) freeEntry (siteAt s i .pends) (siteAt s i .entries) (ready i l .own .entries)))
+      (array-fits 5 (entryFits (s .sizes)) freeEntry (siteAt s i .pends) (siteAt s i .entries) (ready s h i l .own .entries)))
 
   -- the messages of a site's queues, with those of the site elsewhere, are no more than its entries
   pub site-room : (i : ℕ) → i < s .sizes .sites → queued (siteAt s i) + tally (isAt i anything) (s .down .count) (s .down .items) ≤ siteAt s i .pends
   unfolding total
-  site-room i l = omega (arith, of-site i l, own-counted i l, sum-at 4 (λ j. inSite (isAt i anything) (siteAt s j)) i (below-four i l))
+  site-room i l = omega (arith, of-site i l, own-counted i l, sum-at 4 (λ j. inSite (isAt i anything) (siteAt s j)) i (below-four s h i l))
 
   site-counted : (i : ℕ) → i < 4 → inSite (λ m. true) (siteAt s i) ≡ queued (siteAt s i)
   unfolding inSite siteQueueFits
@@ -100,10 +89,10 @@ module _ (s : System) (h : Sound s) where
       (λ u. let k : i < s .sizes .sites = ltb→lt i (s .sizes .sites) u in
       omega (
         arith,
-        all-counted (λ m. true) (ofSite (s .sizes) request i) (λ m t. tt) (siteAt s i .outgoing .count) (siteAt s i .outgoing .items) 5 (s .sizes .pend) (ready i k .out),
-        all-counted (λ m. true) (ofSite (s .sizes) reply i) (λ m t. tt) (siteAt s i .incoming .count) (siteAt s i .incoming .items) 5 (s .sizes .pend) (ready i k .inc),
+        all-counted (λ m. true) (ofSite (s .sizes) request i) (λ m t. tt) (siteAt s i .outgoing .count) (siteAt s i .outgoing .items) 5 (s .sizes .pend) (ready s h i k .out),
+        all-counted (λ m. true) (ofSite (s .sizes) reply i) (λ m t. tt) (siteAt s i .incoming .count) (siteAt s i .incoming .items) 5 (s .sizes .pend) (ready s h i k .inc),
       ))
-      (λ u. let v = vacant i l (nltb→le i (s .sizes .sites) u) in
+      (λ u. let v = vacant s h i l (nltb→le i (s .sizes .sites) u) in
       omega (
         arith,
         none-counted (λ m. true) (siteAt s i .outgoing .count) (siteAt s i .outgoing .items) (v .outgoing),
@@ -129,7 +118,7 @@ module _ (s : System) (h : Sound s) where
   pub count-is : messageCount s ≡ sumBelow (s .sizes .sites) (λ i. siteAt s i .pends)
   count-is =
       sym all-total ∙ sym (count-total (λ m. true) s) ∙
-      by-site (s .sizes .sites) (underWay s) (all-sited s the-limits (h .sites) (h .up) (h .arrived) (h .served) (h .down)) ∙
+      by-site (s .sizes .sites) (underWay s) (all-sited s h) ∙
       sum-same (s .sizes .sites) (λ i. siteAt s i .pends) (λ i. count (isAt i anything) (underWay s)) (λ i l. count-total (isAt i anything) s ∙ of-site i l)
 
   pub count-most : messageCount s ≤ s .sizes .pend * s .sizes .sites
@@ -137,9 +126,9 @@ module _ (s : System) (h : Sound s) where
       omega (
         arith,
         count-is,
-        sum-most (s .sizes .sites) (s .sizes .pend) (λ i. siteAt s i .pends) (λ i l. ready i l .own .n-most),
+        sum-most (s .sizes .sites) (s .sizes .pend) (λ i. siteAt s i .pends) (λ i l. ready s h i l .own .n-most),
         mul-comm (s .sizes .sites) (s .sizes .pend),
       )
 
   pub net-places : s .sizes .pend * s .sizes .sites ≤ 20
-  net-places = mul-le-mul (the-limits .pend-most) (the-limits .sites-most)
+  net-places = mul-le-mul (the-limits s h .pend-most) (the-limits s h .sites-most)

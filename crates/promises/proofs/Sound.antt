@@ -20,7 +20,7 @@ use Rattle.model.specs.declared.Queue.{Queue}
 use Rattle.model.specs.declared.System.{System}
 use Rattle.model.specs.Limits.{inLimits}
 use Rattle.model.specs.Parts.{Site, siteAt}
-use Rattle.model.specs.Sound.{request, reply, ofSite, freeMessage, freeEntry, freeWaiting, messageFits, queueFits, siteQueueFits, waitingFits, stallsFit, entryFits, pendsFit, memoryFits, cacheFits, cachedApart, sameLine, sameTag, samePendTag, pendsUnder, tagsDiffer, ownFits, siteFits, freeSite, siteOk, fourSites, sitesFit, siteMessages, underWay, messagesFit, sound}
+use Rattle.model.specs.Sound.{request, reply, ofSite, freeMessage, freeEntry, freeWaiting, messageFits, queueFits, siteQueueFits, waitingFits, stallsFit, entryFits, pendsFit, memoryFits, cacheFits, cachedApart, sameLine, sameTag, samePendTag, pendsUnder, tagsDiffer, ownFits, siteFits, freeSite, siteOk, fourSites, sitesFit, siteMessages, underWay, partsFit, sound}
 use Rattle.model.specs.Sets.{cached}
 use Rattle.promises.proofs.Sites.{Four, four-open, four-close}
 use Rattle.promises.proofs.Balance.{Balance, balance-open, balance-close}
@@ -57,7 +57,8 @@ limits z t = record {
 
 -- SOUND
 
-pub record Sound (s : System) : Type 0 where
+-- each part fits, and of all together so much more is known
+pub record PartsWith (more : System → Type 0) (s : System) : Type 0 where
   pub sizes : T (inLimits (s .sizes))
   pub memory : T (memoryFits (s .sizes) (s .memory))
   pub four : Four s
@@ -66,7 +67,13 @@ pub record Sound (s : System) : Type 0 where
   pub arrived : NetFits (s .sizes) request (s .arrived)
   pub served : NetFits (s .sizes) reply (s .served)
   pub down : NetFits (s .sizes) reply (s .down)
-  pub balance : Balance s
+  pub balance : more s
+
+abbrev pub Parts : System → Type 0
+Parts s = PartsWith (λ s. Unit {0}) s
+
+abbrev pub Sound : System → Type 0
+Sound s = PartsWith Balance s
 
 -- WHAT A SITE HOLDS BESIDE ITS QUEUES
 
@@ -153,9 +160,9 @@ pub record Vacant (x : Site) : Type 0 where
   pub outgoing : x .outgoing .count ≡ 0
   pub incoming : x .incoming .count ≡ 0
 
-vacant : (x : Site) → T (freeSite x) → Vacant x
+vacant-open : (x : Site) → T (freeSite x) → Vacant x
 unfolding freeSite
-vacant x t =
+vacant-open x t =
     let a : T (eqb (x .pends) 0) = search (and-l, and-r) depth 12 in
     let b : T (eqb (x .stalls) 0) = search (and-l, and-r) depth 12 in
     let c : T (eqb (x .outgoing .count) 0) = search (and-l, and-r) depth 12 in
@@ -169,23 +176,28 @@ vacant x t =
 
 -- EACH SITE IS ONE OR THE OTHER
 
-module _ (s : System) (m : Limits (s .sizes)) (ok : (i : ℕ) → i < 4 → T (siteOk (s .sizes) i (siteAt s i))) where
-  pub ready-at : (i : ℕ) → i < s .sizes .sites → Ready (s .sizes) i (siteAt s i)
-  ready-at i l = ready-open (s .sizes) i (siteAt s i) m l (used i l (ok i (omega (arith, m .sites-most))))
-    where
-      used : (i : ℕ) → i < s .sizes .sites → T (siteOk (s .sizes) i (siteAt s i)) → T (siteFits (s .sizes) i (siteAt s i))
-      used i l t = rw (cond-T (ltb i (s .sizes .sites)) (siteFits (s .sizes) i (siteAt s i)) (freeSite (siteAt s i)) (lt→ltb i (s .sizes .sites) l)) at t
+module _ {more : System → Type 0} (s : System) (h : PartsWith more s) where
+  pub the-limits : Limits (s .sizes)
+  the-limits = limits (s .sizes) (h .sizes)
+
+  pub below-four : (i : ℕ) → i < s .sizes .sites → i < 4
+  below-four i l = omega (arith, l, the-limits .sites-most)
+
+  pub ready : (i : ℕ) → i < s .sizes .sites → Ready (s .sizes) i (siteAt s i)
+  ready i l =
+      ready-open (s .sizes) i (siteAt s i) the-limits l
+      (rw (cond-T (ltb i (s .sizes .sites)) (siteFits (s .sizes) i (siteAt s i)) (freeSite (siteAt s i)) (lt→ltb i (s .sizes .sites) l)) at (h .sites i (below-four i l)))
 
   -- a site past the sizes is vacant
-  pub vacant-at : (i : ℕ) → i < 4 → s .sizes .sites ≤ i → Vacant (siteAt s i)
-  vacant-at i l h =
-      vacant (siteAt s i)
+  pub vacant : (i : ℕ) → i < 4 → s .sizes .sites ≤ i → Vacant (siteAt s i)
+  vacant i l k =
+      vacant-open (siteAt s i)
       (rw (cond-F (ltb i (s .sizes .sites)) (siteFits (s .sizes) i (siteAt s i)) (freeSite (siteAt s i))
-      (not-T (ltb i (s .sizes .sites)) (λ u. omega (arith, ltb→lt i (s .sizes .sites) u)))) at (ok i l))
+      (not-T (ltb i (s .sizes .sites)) (λ u. omega (arith, ltb→lt i (s .sizes .sites) u)))) at (h .sites i l))
 
 -- WHAT EACH MESSAGE THAT FITS PASSES EACH MESSAGE UNDER WAY PASSES
 
-module _ (s : System) (m : Limits (s .sizes)) (ok : (i : ℕ) → i < 4 → T (siteOk (s .sizes) i (siteAt s i)))
+module _ {more : System → Type 0} (s : System) (h : PartsWith more s)
     (good : Message → Bool) (fine : (side : ℕ → Bool) (y : Message) → T (messageFits (s .sizes) side y) → T (good y)) where
   net-good : (side : ℕ → Bool) (q : Queue) → NetFits (s .sizes) side q → T (each good (take (q .count) (q .items)))
   net-good side q t =
@@ -207,65 +219,64 @@ module _ (s : System) (m : Limits (s .sizes)) (ok : (i : ℕ) → i < 4 → T (s
   site-good i l =
       by-test (ltb i (s .sizes .sites))
       (λ u. let k : i < s .sizes .sites = ltb→lt i (s .sizes .sites) u in
-      let r : Ready (s .sizes) i (siteAt s i) = ready-at s m ok i k in
+      let r : Ready (s .sizes) i (siteAt s i) = ready s h i k in
       each-append good (take (siteAt s i .outgoing .count) (siteAt s i .outgoing .items)) (take (siteAt s i .incoming .count) (siteAt s i .incoming .items))
       (own-good i k request (siteAt s i .outgoing .count) (siteAt s i .outgoing .items) (r .out))
       (own-good i k reply (siteAt s i .incoming .count) (siteAt s i .incoming .items) (r .inc)))
-      (λ u. let v = vacant-at s m ok i l (nltb→le i (s .sizes .sites) u) in
+      (λ u. let v = vacant s h i l (nltb→le i (s .sizes .sites) u) in
       each-append good (take (siteAt s i .outgoing .count) (siteAt s i .outgoing .items)) (take (siteAt s i .incoming .count) (siteAt s i .incoming .items))
       (none-good (siteAt s i .outgoing .count) (siteAt s i .outgoing .items) (v .outgoing))
       (none-good (siteAt s i .incoming .count) (siteAt s i .incoming .items) (v .incoming)))
 
-  pub all-good : NetFits (s .sizes) request (s .up) → NetFits (s .sizes) request (s .arrived) → NetFits (s .sizes) reply (s .served) → NetFits (s .sizes) reply (s .down) →
-      T (each good (underWay s))
+  pub all-good : T (each good (underWay s))
   unfolding underWay
-  all-good u a v d =
+  all-good =
       each-append good (allOf 4 (λ i. siteMessages (siteAt s i))) _ (each-allOf good 4 (λ i. siteMessages (siteAt s i)) site-good)
-      (each-append good (take (s .up .count) (s .up .items)) _ (net-good request (s .up) u)
-      (each-append good (take (s .arrived .count) (s .arrived .items)) _ (net-good request (s .arrived) a)
-      (each-append good (take (s .served .count) (s .served .items)) _ (net-good reply (s .served) v) (net-good reply (s .down) d))))
+      (each-append good (take (s .up .count) (s .up .items)) _ (net-good request (s .up) (h .up))
+      (each-append good (take (s .arrived .count) (s .arrived .items)) _ (net-good request (s .arrived) (h .arrived))
+      (each-append good (take (s .served .count) (s .served .items)) _ (net-good reply (s .served) (h .served)) (net-good reply (s .down) (h .down)))))
 
 -- each message under way is of a site of the system
-module _ (s : System) (m : Limits (s .sizes)) (ok : (i : ℕ) → i < 4 → T (siteOk (s .sizes) i (siteAt s i))) where
-  pub all-sited : NetFits (s .sizes) request (s .up) → NetFits (s .sizes) request (s .arrived) → NetFits (s .sizes) reply (s .served) → NetFits (s .sizes) reply (s .down) →
-      T (each (λ y. ltb (y .site) (s .sizes .sites)) (underWay s))
-  unfolding messageFits
-  all-sited = all-good s m ok (λ y. ltb (y .site) (s .sizes .sites)) sited
-    where
-      sited : (side : ℕ → Bool) (y : Message) → T (messageFits (s .sizes) side y) → T (ltb (y .site) (s .sizes .sites))
-      sited side y t = search (and-l, and-r)
+pub all-sited : {more : System → Type 0} (s : System) → PartsWith more s → T (each (λ y. ltb (y .site) (s .sizes .sites)) (underWay s))
+unfolding messageFits
+all-sited s h = all-good s h (λ y. ltb (y .site) (s .sizes .sites)) (λ side y t. search (and-l, and-r))
 
 -- OPENED AND CLOSED
 
-pub opened : (s : System) → T (sound s) → Sound s
-unfolding sound sitesFit
-opened s t =
-    let z : T (inLimits (s .sizes)) = search (and-l, and-r) depth 12 in
+pub parts-open : {more : System → Type 0} (s : System) → T (partsFit s) → more s → PartsWith more s
+unfolding sitesFit
+parts-open s t b =
     let f : T (fourSites s) = search (and-l, and-r) depth 12 in
-    let b : T (allBelow 4 (λ i. siteOk (s .sizes) i (siteAt s i))) = search (and-l, and-r) depth 12 in
-    let ok : (i : ℕ) → i < 4 → T (siteOk (s .sizes) i (siteAt s i)) = below-at 4 (λ i. siteOk (s .sizes) i (siteAt s i)) b in
-    let w : T (messagesFit s (underWay s)) = search (and-l, and-r) depth 12 in
+    let e : T (allBelow 4 (λ i. siteOk (s .sizes) i (siteAt s i))) = search (and-l, and-r) depth 12 in
     record {
-      sizes = z;
+      sizes = search (and-l, and-r) depth 12;
       memory = search (and-l, and-r) depth 12;
       four = four-open s f;
-      sites = ok;
+      sites = below-at 4 (λ i. siteOk (s .sizes) i (siteAt s i)) e;
       up = search (and-l, and-r) depth 12;
       arrived = search (and-l, and-r) depth 12;
       served = search (and-l, and-r) depth 12;
       down = search (and-l, and-r) depth 12;
-      balance =
-          balance-open s (λ i l. ready-pends (s .sizes) i (siteAt s i) (ready-at s (limits (s .sizes) z) ok i l))
-          (λ i l. ready-at s (limits (s .sizes) z) ok i l .own .lines) w;
+      balance = b;
     }
 
-pub closed : (s : System) → Sound s → T (sound s)
-unfolding sound sitesFit
-closed s h =
+parts-close : {more : System → Type 0} (s : System) → PartsWith more s → T (partsFit s)
+unfolding sitesFit
+parts-close s h =
     let f : T (fourSites s) = four-close s (h .four) in
     let b : T (allBelow 4 (λ i. siteOk (s .sizes) i (siteAt s i))) = below-all 4 (λ i. siteOk (s .sizes) i (siteAt s i)) (h .sites) in
-    let m : Limits (s .sizes) = limits (s .sizes) (h .sizes) in
-    let w : T (messagesFit s (underWay s)) =
-    balance-close s (λ i l. ready-pends (s .sizes) i (siteAt s i) (ready-at s m (h .sites) i l)) (λ i l. ready-at s m (h .sites) i l .own .lines)
-    (all-sited s m (h .sites) (h .up) (h .arrived) (h .served) (h .down)) (h .balance) in
     search both depth 12
+
+pub opened : (s : System) → T (sound s) → Sound s
+unfolding sound
+opened s t =
+    let p = and-l (partsFit s) _ t in
+    let h : Parts s = parts-open s p tt in
+    parts-open s p
+    (balance-open s (λ i l. ready-pends (s .sizes) i (siteAt s i) (ready s h i l)) (λ i l. ready s h i l .own .lines) (and-r (partsFit s) _ t))
+
+pub closed : (s : System) → Sound s → T (sound s)
+unfolding sound
+closed s h =
+    both (partsFit s) _ (parts-close s h)
+    (balance-close s (λ i l. ready-pends (s .sizes) i (siteAt s i) (ready s h i l)) (λ i l. ready s h i l .own .lines) (all-sited s h) (h .balance))

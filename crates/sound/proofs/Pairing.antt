@@ -10,18 +10,17 @@ use lib.ListN.{length, take, replicate}
 use Rattle.lists.specs.Places.{tally, fits, eachOf, allBelow, sumBelow, count, each, allOf}
 use Rattle.lists.proofs.Tests.{and-l, and-r, both, by-test, same-test}
 use Rattle.lists.proofs.Places.{array-fits, fits-zip, tally-places}
-use Rattle.lists.proofs.Below.{below-at, sum-same, below-same}
+use Rattle.lists.proofs.Below.{sum-same, below-same}
 use Rattle.lists.proofs.Counts.{each-take, take-each}
 use Rattle.model.specs.declared.Message.{Message}
 use Rattle.model.specs.declared.Entry.{Entry}
 use Rattle.model.specs.declared.Queue.{Queue}
 use Rattle.model.specs.declared.System.{System}
 use Rattle.model.specs.Parts.{Site, siteAt}
-use Rattle.model.specs.Sound.{request, reply, ofSite, messageFits, siteQueueFits, freeEntry, entryFits, siteOk, fourSites, sitesFit, isFor, underWay, entriesAt, exactlyOne, messagesFit}
+use Rattle.model.specs.Sound.{request, reply, ofSite, messageFits, siteQueueFits, freeEntry, entryFits, isFor, underWay, entriesAt, exactlyOne, messagesFit}
 use Rattle.promises.proofs.Balance.{inSite, total, count-total}
 use Rattle.promises.proofs.Queues.{NetFits, queue-most, queue-inside}
-use Rattle.promises.proofs.Sound.{Limits, limits, Ready, Vacant, ready-at, ready-pends, vacant-at, all-good, all-sited}
-use Rattle.sound.specs.Fitting.{Fitting}
+use Rattle.promises.proofs.Sound.{Parts, Ready, Vacant, the-limits, ready, ready-pends, vacant, all-good, all-sited}
 use Rattle.sound.specs.Naming.{nearAt, named, oneFor}
 use Rattle.sound.proofs.Once.{by-number}
 use Rattle.sound.proofs.Table.{named-append, nameable, table-one}
@@ -41,23 +40,13 @@ record Counts (x : Site) : Type 0 where
   out-places : x .outgoing .count ≤ length (x .outgoing .items)
   inc-places : x .incoming .count ≤ length (x .incoming .items)
 
-module _ (s : System) (h : Fitting s) where
-  the-limits : Limits (s .sizes)
-  the-limits = limits (s .sizes) (h .sizes)
-
-  site-ok : (i : ℕ) → i < 4 → T (siteOk (s .sizes) i (siteAt s i))
-  unfolding sitesFit
-  site-ok = below-at 4 (λ i. siteOk (s .sizes) i (siteAt s i)) (and-r (fourSites s) _ (h .sites))
-
-  ready : (i : ℕ) → i < s .sizes .sites → Ready (s .sizes) i (siteAt s i)
-  ready = ready-at s the-limits site-ok
-
+module _ (s : System) (h : Parts s) where
   pub sites-most : s .sizes .sites ≤ 4
-  sites-most = the-limits .sites-most
+  sites-most = the-limits s h .sites-most
 
   counts : (i : ℕ) → i < 4 → Counts (siteAt s i)
   unfolding siteQueueFits
-  counts i l = by-test (ltb i (s .sizes .sites)) (λ u. used (ready i (ltb→lt i (s .sizes .sites) u))) (λ u. unused (vacant-at s the-limits site-ok i l (nltb→le i (s .sizes .sites) u)))
+  counts i l = by-test (ltb i (s .sizes .sites)) (λ u. used (ready s h i (ltb→lt i (s .sizes .sites) u))) (λ u. unused (vacant s h i l (nltb→le i (s .sizes .sites) u)))
     where
       used : Ready (s .sizes) i (siteAt s i) → Counts (siteAt s i)
       used r =
@@ -65,9 +54,9 @@ module _ (s : System) (h : Fitting s) where
           let a = queue-most 5 (s .sizes .pend) (ofSite (s .sizes) request i) (x .outgoing .count) (x .outgoing .items) (r .out) in
           let b = queue-most 5 (s .sizes .pend) (ofSite (s .sizes) reply i) (x .incoming .count) (x .incoming .items) (r .inc) in
           record {
-            pends = omega (arith, r .own .n-most, the-limits .pend-most);
-            out = omega (arith, a, the-limits .pend-most);
-            inc = omega (arith, b, the-limits .pend-most);
+            pends = omega (arith, r .own .n-most, the-limits s h .pend-most);
+            out = omega (arith, a, the-limits s h .pend-most);
+            inc = omega (arith, b, the-limits s h .pend-most);
             out-places = queue-inside 5 (s .sizes .pend) (ofSite (s .sizes) request i) (x .outgoing .count) (x .outgoing .items) (r .out);
             inc-places = queue-inside 5 (s .sizes .pend) (ofSite (s .sizes) reply i) (x .incoming .count) (x .incoming .items) (r .inc);
           }
@@ -95,7 +84,7 @@ module _ (s : System) (h : Fitting s) where
       omega (
         arith,
         queue-most 20 (s .sizes .pend * s .sizes .sites) (messageFits (s .sizes) side) (q .count) (q .items) t,
-        mul-le-mul (the-limits .pend-most) (the-limits .sites-most),
+        mul-le-mul (the-limits s h .pend-most) (the-limits s h .sites-most),
       )
 
   -- AS MANY MESSAGES AS THE COUNTS SAY
@@ -136,14 +125,14 @@ module _ (s : System) (h : Fitting s) where
 
   all-nameable : T (each nameable (underWay s))
   unfolding messageFits
-  all-nameable = all-good s the-limits site-ok nameable fine (h .up) (h .arrived) (h .served) (h .down)
+  all-nameable = all-good s h nameable fine
     where
       fine : (side : ℕ → Bool) (m : Message) → T (messageFits (s .sizes) side m) → T (nameable m)
       fine side m t =
           let a : T (ltb (m .site) (s .sizes .sites)) = search (and-l, and-r) in
           let b : T (ltb (m .line) (s .sizes .lines)) = search (and-l, and-r) in
-          both (ltb (m .site) 4) _ (lt→ltb (m .site) 4 (omega (arith, ltb→lt (m .site) (s .sizes .sites) a, the-limits .sites-most)))
-          (lt→ltb (m .line) 16 (omega (arith, ltb→lt (m .line) (s .sizes .lines) b, the-limits .lines-most)))
+          both (ltb (m .site) 4) _ (lt→ltb (m .site) 4 (omega (arith, ltb→lt (m .site) (s .sizes .sites) a, the-limits s h .sites-most)))
+          (lt→ltb (m .line) 16 (omega (arith, ltb→lt (m .line) (s .sizes .lines) b, the-limits s h .lines-most)))
 
   abbrev table : List ℕ
   table = named (underWay s) (replicate 128 0)
@@ -157,13 +146,13 @@ module _ (s : System) (h : Fitting s) where
       line-below : (e : Entry) → T (entryFits (s .sizes) e) → e .line < 16
       line-below e t =
           let a : T (ltb (e .line) (s .sizes .lines)) = search (and-l, and-r) depth 10 in
-          omega (arith, ltb→lt (e .line) (s .sizes .lines) a, the-limits .lines-most)
+          omega (arith, ltb→lt (e .line) (s .sizes .lines) a, the-limits s h .lines-most)
 
       at : (i : ℕ) → i < s .sizes .sites → eachOf (oneFor table i) (siteAt s i .pends) (siteAt s i .entries) ≡ each (λ e. eqb (count (isFor i e) (underWay s)) 1) (entriesAt s i)
       at i l =
           same-test (eachOf (oneFor table i) n es) (each one (take n es))
           (λ t. each-take one (λ e. true) n es (fits-zip (oneFor table i) (entryFits (s .sizes)) one (λ e. true) freeEntry (λ e u v. subst T (same e v) u) n es t fit))
-          (λ t. fits-zip one (entryFits (s .sizes)) (oneFor table i) (λ e. true) freeEntry (λ e u v. subst T (sym (same e v)) u) n es (take-each one n es (ready-pends (s .sizes) i (siteAt s i) (ready i l)) t) fit)
+          (λ t. fits-zip one (entryFits (s .sizes)) (oneFor table i) (λ e. true) freeEntry (λ e u v. subst T (sym (same e v)) u) n es (take-each one n es (ready-pends (s .sizes) i (siteAt s i) (ready s h i l)) t) fit)
         where
           n : ℕ
           n = siteAt s i .pends
@@ -175,14 +164,14 @@ module _ (s : System) (h : Fitting s) where
           one e = eqb (count (isFor i e) (underWay s)) 1
 
           same : (e : Entry) → T (entryFits (s .sizes) e) → oneFor table i e ≡ one e
-          same e t = table-one i e (underWay s) (omega (arith, l, the-limits .sites-most)) (line-below e t) all-nameable
+          same e t = table-one i e (underWay s) (omega (arith, l, the-limits s h .sites-most)) (line-below e t) all-nameable
 
           fit : T (fits (entryFits (s .sizes)) freeEntry n es)
-          fit = array-fits 5 (entryFits (s .sizes)) freeEntry n es (ready i l .own .entries)
+          fit = array-fits 5 (entryFits (s .sizes)) freeEntry n es (ready s h i l .own .entries)
 
   pub by-names : (allBelow (s .sizes .sites) (λ i. eachOf (oneFor table i) (siteAt s i .pends) (siteAt s i .entries)) &&
       eqb (nearCount + farCount) (sumBelow (s .sizes .sites) (λ i. siteAt s i .pends))) ≡ messagesFit s (underWay s)
   by-names =
       rw (by-table, ← all-counted)
-      (by-number s (λ i l. ready i l .own .lines) (λ i l. ready-pends (s .sizes) i (siteAt s i) (ready i l)) (underWay s)
-      (all-sited s the-limits site-ok (h .up) (h .arrived) (h .served) (h .down)))
+      (by-number s (λ i l. ready s h i l .own .lines) (λ i l. ready-pends (s .sizes) i (siteAt s i) (ready s h i l)) (underWay s)
+      (all-sited s h))

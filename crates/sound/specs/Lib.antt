@@ -1,4 +1,3 @@
 pub mod Sides
 pub mod Sites
-pub mod Fitting
 pub mod Naming

@@ -1,35 +1,29 @@
-use mathlib.Core.Path.{_≡_, refl, _∙_}
+use mathlib.Core.Path.{_≡_, _∙_}
 use mathlib.Core.Bool.{Bool, _&&_}
 use native.Mathlib.Omega.{arith}
 use borrow.Author.Tests.{not-true, not-false}
 use borrow.Author.Needs.{needs}
 use lib.Dec.{T}
 use lib.ListN.{replicate}
-use Rattle.lists.proofs.Tests.{and-l, and-r}
 use Rattle.model.specs.declared.System.{System}
 use Rattle.model.specs.Limits.{inLimits}
-use Rattle.model.specs.Sound.{request, reply, memoryFits, fourSites, sitesFit, netFits, sound, messagesFit, underWay}
-use Rattle.sound.specs.Fitting.{partsFit, Fitting}
+use Rattle.model.specs.Sound.{request, reply, memoryFits, fourSites, sitesFit, netFits, partsFit, sound, underWay}
+use Rattle.promises.proofs.Sound.{Parts, parts-open}
 use Rattle.sound.specs.Naming.{named}
 use Rattle.sound.specs.Sites.{systemOf}
 use Rattle.sound.proofs.Pairing.{named-under-way, sites-most, pends-most, out-most, in-most, net-most, by-names}
 use Rattle.sound.proofs.is_sound.Statement.{statement}
 use Rattle.sound.proofs.is_sound.Tie as tie
 
-fitting : (s : System) → T (partsFit s) → Fitting s
-unfolding partsFit
-fitting s t = search (and-l, and-r) depth 10
-
-sound-parts : (s : System) → sound s ≡ (partsFit s && messagesFit s (underWay s))
-unfolding sound partsFit
-sound-parts s = refl
+fitting : (s : System) → T (partsFit s) → Parts s
+fitting s t = parts-open s t tt
 
 -- the tests of the parts, one by one
 made : (s : System) (f m g u a v d : Bool) → f ≡ inLimits (s .sizes) → m ≡ memoryFits (s .sizes) (s .memory) →
     g ≡ sitesFit (systemOf (s .sizes) (s .caches) (s .pends) (s .stalls) (s .outgoing) (s .incoming)) →
     u ≡ netFits (s .sizes) request (s .up) → a ≡ netFits (s .sizes) request (s .arrived) →
     v ≡ netFits (s .sizes) reply (s .served) → d ≡ netFits (s .sizes) reply (s .down) → (f && m && g && u && a && v && d) ≡ partsFit s
-unfolding fourSites sitesFit partsFit
+unfolding fourSites sitesFit
 made s f m g u a v d p q r w x y z = rw (p, q, r, w, x, y, z)
 
 fit-requires : tie.Need-fit-requires
@@ -54,12 +48,13 @@ far-fits-requires-4 : tie.Need-far-fits-requires-4
 far-fits-requires-4 c κs = search needs
 
 returns : tie.Need-returns
+unfolding sound
 returns c =
     let i = c in
     let o = i .before in
     let s = o .before .before .before .before .before .before .before .before .before .before .before .before .before .before .before .before .before .before .args .s in
     let e = made s _ _ _ _ _ _ _ (o .before .before .before .before .before .before .fit .ensures) (o .before .before .before .before .before .memory-fits .ensures) (o .before .before .before .before .sites-fit .ensures) (o .before .before .before .far-fits .ensures) (o .before .before .far-fits2 .ensures) (o .before .far-fits3 .ensures) (o .far-fits4 .ensures) in
-    rw (sound-parts s, ← e, not-true (o .before .before .before .before .before .before .fit .result && o .before .before .before .before .before .memory-fits .result && o .before .before .before .before .sites-fit .result && o .before .before .before .far-fits .result && o .before .before .far-fits2 .result && o .before .far-fits3 .result && o .far-fits4 .result) (i .if1 .taken))
+    rw (← e, not-true (o .before .before .before .before .before .before .fit .result && o .before .before .before .before .before .memory-fits .result && o .before .before .before .before .sites-fit .result && o .before .before .before .far-fits .result && o .before .before .far-fits2 .result && o .before .far-fits3 .result && o .far-fits4 .result) (i .if1 .taken))
 
 none-named-requires : tie.Need-none-named-requires
 none-named-requires c κs = search needs
@@ -137,6 +132,7 @@ entry-count-requires c κs =
     sites-most s h
 
 returns-2 : tie.Need-returns-2
+unfolding sound
 returns-2 c =
     let i = c .before .before .before .before .before .before .before .before .before .before in
     let o = i .before in
@@ -149,7 +145,6 @@ returns-2 c =
     rw (f .before .far-named3 .ensures, f .before .before .far-named2 .ensures, f .before .before .before .far-named .ensures, f .before .before .before .before .sites-named .ensures, f .before .before .before .before .before .none-named .ensures)
     (named-under-way s (replicate 128 0)) in
     rw (
-      sound-parts s,
       ← e,
       not-false (o .before .before .before .before .before .before .fit .result && o .before .before .before .before .before .memory-fits .result && o .before .before .before .before .sites-fit .result && o .before .before .before .far-fits .result && o .before .before .far-fits2 .result && o .before .far-fits3 .result && o .far-fits4 .result) (i .if1 .left),
       c .before .before .before .all-named .ensures,
