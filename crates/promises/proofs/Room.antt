@@ -6,18 +6,20 @@ use Prim.Native.Nat.{ℕ, _+_, _*_, _≤_, _<_}
 use native.Mathlib.Nat.{mul-comm, mul-le-mul}
 use native.Mathlib.Omega.{arith}
 use lib.Dec.{T, ltb, eqb, ltb→lt, nltb→le}
-use Rattle.lists.specs.Places.{ind, weigh, tally, sumBelow, count, each}
+use lib.ListN.{length}
+use Rattle.lists.specs.Places.{ind, tally, sumBelow, count, each}
 use Rattle.lists.proofs.Tests.{and-l, and-r, both, by-test}
-use Rattle.lists.proofs.Places.{array-fits, fits-any, tally-all}
+use Rattle.lists.proofs.Places.{array-fits, fits-any, tally-all, tally-places}
 use Rattle.lists.proofs.Below.{one-below, sum-at, sum-same, sum-both, sum-most}
 use Rattle.model.specs.declared.Message.{Message}
+use Rattle.model.specs.declared.SiteQueue.{SiteQueue}
 use Rattle.model.specs.declared.Queue.{Queue}
 use Rattle.model.specs.declared.System.{System}
 use Rattle.model.specs.Parts.{Site, siteAt}
-use Rattle.model.specs.Sound.{request, reply, ofSite, messageFits, queueFits, siteQueueFits, freeMessage, freeEntry, entryFits, underWay}
+use Rattle.model.specs.Sound.{request, reply, ofSite, messageFits, siteQueueFits, freeMessage, freeEntry, entryFits, underWay}
 use Rattle.promises.proofs.Balance.{inSite, total, isAt, asksAt, count-total}
-use Rattle.promises.proofs.Queues.{NetFits, queue-fits}
-use Rattle.promises.proofs.Sound.{Sound, all-sited}
+use Rattle.promises.proofs.Queues.{NetFits, queue-most, queue-fits, queue-inside}
+use Rattle.promises.proofs.Sound.{PartsWith, Sound, all-sited}
 pub use Rattle.promises.proofs.Sound.{the-limits, ready, vacant, below-four}
 
 -- any line, on any trip
@@ -47,27 +49,70 @@ queued x = x .outgoing .count + x .incoming .count
 unfoldable pub messageCount : System → ℕ
 messageCount s = sumBelow 4 (λ i. queued (siteAt s i)) + s .up .count + s .arrived .count + s .served .count + s .down .count
 
-all-counted : (f ok : Message → Bool) → ((m : Message) → T (ok m) → T (f m)) → (n : ℕ) (xs : List Message) (places most : ℕ) →
-    T (queueFits places most ok n xs) → tally f n xs ≡ n
-all-counted f ok h n xs places most t = tally-all f n xs (fits-any ok f freeMessage h n xs (queue-fits places most ok n xs t))
+-- a site's counts are within its arrays
+pub record Counts (x : Site) : Type 0 where
+  pub pends : x .pends ≤ 5
+  pub out : x .outgoing .count ≤ 5
+  pub inc : x .incoming .count ≤ 5
+  pub out-places : x .outgoing .count ≤ length (x .outgoing .items)
+  pub inc-places : x .incoming .count ≤ length (x .incoming .items)
 
-none-counted : (f : Message → Bool) (n : ℕ) (xs : List Message) → n ≡ 0 → tally f n xs ≡ n
-unfolding weigh
-none-counted f n xs e = rw e
+module _ {more : System → Type 0} (s : System) (h : PartsWith more s) where
+  pub net-places : s .sizes .pend * s .sizes .sites ≤ 20
+  net-places = mul-le-mul (the-limits s h .pend-most) (the-limits s h .sites-most)
+
+  pub net-most : (side : ℕ → Bool) (q : Queue) → NetFits (s .sizes) side q → q .count ≤ 20
+  net-most side q t = omega (arith, queue-most 20 (s .sizes .pend * s .sizes .sites) (messageFits (s .sizes) side) (q .count) (q .items) t, net-places)
+
+  pub counts : (i : ℕ) → i < 4 → Counts (siteAt s i)
+  unfolding siteQueueFits
+  counts i l =
+      by-test (ltb i (s .sizes .sites))
+      (λ u. let r = ready s h i (ltb→lt i (s .sizes .sites) u) in
+      omega (arith, r .own .n-most, r .limits .pend-most, inside request (siteAt s i .outgoing) (r .out), inside reply (siteAt s i .incoming) (r .inc)))
+      (λ u. omega (arith, vacant s h i l (nltb→le i (s .sizes .sites) u)))
+    where
+      inside : (side : ℕ → Bool) (q : SiteQueue) → T (siteQueueFits (s .sizes) side i q) → (q .count ≤ s .sizes .pend) × (q .count ≤ length (q .items))
+      inside side q t =
+          (queue-most 5 (s .sizes .pend) (ofSite (s .sizes) side i) (q .count) (q .items) t, queue-inside 5 (s .sizes .pend) (ofSite (s .sizes) side i) (q .count) (q .items) t)
+
+  -- as many messages as the counts say
+  pub all-total : total (λ m. true) s ≡ messageCount s
+  unfolding total inSite messageCount
+  all-total =
+      omega (
+        arith,
+        sum-same 4 (λ i. queued (siteAt s i)) (λ i. inSite (λ m. true) (siteAt s i)) near,
+        far request (s .up) (h .up),
+        far request (s .arrived) (h .arrived),
+        far reply (s .served) (h .served),
+        far reply (s .down) (h .down),
+      )
+    where
+      near : (i : ℕ) → i < 4 → inSite (λ m. true) (siteAt s i) ≡ queued (siteAt s i)
+      near i l =
+          omega (
+            arith,
+            tally-places (siteAt s i .outgoing .count) (siteAt s i .outgoing .items) (counts i l .out-places),
+            tally-places (siteAt s i .incoming .count) (siteAt s i .incoming .items) (counts i l .inc-places),
+          )
+
+      far : (side : ℕ → Bool) (q : Queue) → NetFits (s .sizes) side q → tally (λ m. true) (q .count) (q .items) ≡ q .count
+      far side q t =
+          tally-places (q .count) (q .items)
+          (queue-inside 20 (s .sizes .pend * s .sizes .sites) (messageFits (s .sizes) side) (q .count) (q .items) t)
 
 module _ (s : System) (h : Sound s) where
   -- all messages of a site's own queues are of that site
   pub own-counted : (i : ℕ) → i < s .sizes .sites → inSite (isAt i anything) (siteAt s i) ≡ queued (siteAt s i)
   unfolding inSite siteQueueFits
-  own-counted i l =
-      omega (
-        arith,
-        all-counted (isAt i anything) (ofSite (s .sizes) request i) (mine request) (siteAt s i .outgoing .count) (siteAt s i .outgoing .items) 5 (s .sizes .pend) (ready s h i l .out),
-        all-counted (isAt i anything) (ofSite (s .sizes) reply i) (mine reply) (siteAt s i .incoming .count) (siteAt s i .incoming .items) 5 (s .sizes .pend) (ready s h i l .inc),
-      )
+  own-counted i l = omega (arith, mine request (siteAt s i .outgoing) (ready s h i l .out), mine reply (siteAt s i .incoming) (ready s h i l .inc))
     where
-      mine : (side : ℕ → Bool) (m : Message) → T (ofSite (s .sizes) side i m) → T (isAt i anything m)
-      mine side m t = both (eqb (m .site) i) _ (and-r (messageFits (s .sizes) side m) _ t) tt
+      mine : (side : ℕ → Bool) (q : SiteQueue) → T (siteQueueFits (s .sizes) side i q) → tally (isAt i anything) (q .count) (q .items) ≡ q .count
+      mine side q t =
+          tally-all (isAt i anything) (q .count) (q .items)
+          (fits-any (ofSite (s .sizes) side i) (isAt i anything) freeMessage (λ m u. both (eqb (m .site) i) _ (and-r (messageFits (s .sizes) side m) _ u) tt) (q .count) (q .items)
+          (queue-fits 5 (s .sizes .pend) (ofSite (s .sizes) side i) (q .count) (q .items) t))
 
   -- all messages of a site: as many as its entries
   pub of-site : (i : ℕ) → i < s .sizes .sites → total (isAt i anything) s ≡ siteAt s i .pends
@@ -82,42 +127,10 @@ module _ (s : System) (h : Sound s) where
   unfolding total
   site-room i l = omega (arith, of-site i l, own-counted i l, sum-at 4 (λ j. inSite (isAt i anything) (siteAt s j)) i (below-four s h i l))
 
-  site-counted : (i : ℕ) → i < 4 → inSite (λ m. true) (siteAt s i) ≡ queued (siteAt s i)
-  unfolding inSite siteQueueFits
-  site-counted i l =
-      by-test (ltb i (s .sizes .sites))
-      (λ u. let k : i < s .sizes .sites = ltb→lt i (s .sizes .sites) u in
-      omega (
-        arith,
-        all-counted (λ m. true) (ofSite (s .sizes) request i) (λ m t. tt) (siteAt s i .outgoing .count) (siteAt s i .outgoing .items) 5 (s .sizes .pend) (ready s h i k .out),
-        all-counted (λ m. true) (ofSite (s .sizes) reply i) (λ m t. tt) (siteAt s i .incoming .count) (siteAt s i .incoming .items) 5 (s .sizes .pend) (ready s h i k .inc),
-      ))
-      (λ u. let v = vacant s h i l (nltb→le i (s .sizes .sites) u) in
-      omega (
-        arith,
-        none-counted (λ m. true) (siteAt s i .outgoing .count) (siteAt s i .outgoing .items) (v .outgoing),
-        none-counted (λ m. true) (siteAt s i .incoming .count) (siteAt s i .incoming .items) (v .incoming),
-      ))
-
-  net-counted : (side : ℕ → Bool) (q : Queue) → NetFits (s .sizes) side q → tally (λ m. true) (q .count) (q .items) ≡ q .count
-  net-counted side q t = all-counted (λ m. true) (messageFits (s .sizes) side) (λ m u. tt) (q .count) (q .items) 20 (s .sizes .pend * s .sizes .sites) t
-
-  all-total : total (λ m. true) s ≡ messageCount s
-  unfolding total messageCount
-  all-total =
-      omega (
-        arith,
-        sum-same 4 (λ i. queued (siteAt s i)) (λ i. inSite (λ m. true) (siteAt s i)) site-counted,
-        net-counted request (s .up) (h .up),
-        net-counted request (s .arrived) (h .arrived),
-        net-counted reply (s .served) (h .served),
-        net-counted reply (s .down) (h .down),
-      )
-
   -- as many messages as entries
   pub count-is : messageCount s ≡ sumBelow (s .sizes .sites) (λ i. siteAt s i .pends)
   count-is =
-      sym all-total ∙ sym (count-total (λ m. true) s) ∙
+      sym (all-total s h) ∙ sym (count-total (λ m. true) s) ∙
       by-site (s .sizes .sites) (underWay s) (all-sited s h) ∙
       sum-same (s .sizes .sites) (λ i. siteAt s i .pends) (λ i. count (isAt i anything) (underWay s)) (λ i l. count-total (isAt i anything) s ∙ of-site i l)
 
@@ -129,6 +142,3 @@ module _ (s : System) (h : Sound s) where
         sum-most (s .sizes .sites) (s .sizes .pend) (λ i. siteAt s i .pends) (λ i l. ready s h i l .own .n-most),
         mul-comm (s .sizes .sites) (s .sizes .pend),
       )
-
-  pub net-places : s .sizes .pend * s .sizes .sites ≤ 20
-  net-places = mul-le-mul (the-limits s h .pend-most) (the-limits s h .sites-most)

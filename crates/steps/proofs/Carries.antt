@@ -2,7 +2,7 @@
 use mathlib.Core.Path.{_≡_, refl}
 use mathlib.Core.List.{List}
 use mathlib.Core.Bool.{Bool, true, false, cond}
-use Prim.Native.Nat.{ℕ, _*_, _≤_, _<_}
+use Prim.Native.Nat.{ℕ, _<_}
 use native.Mathlib.Omega.{arith}
 use lib.Dec.{ltb, eqb, ltb→lt}
 use lib.ListN.{set}
@@ -22,7 +22,6 @@ use Rattle.model.specs.Parts.{pastLine, siteAt, netPut, netAt, netRest}
 use Rattle.model.specs.Sound.{messageFits}
 use Rattle.model.specs.Serve.{lineAt, stored, memoryAfter}
 use Rattle.model.specs.Steps.{unless, arrivedMemory, sentBack, afterArriveMemory, afterSendBack}
-use Rattle.promises.proofs.Queues.{NetFits, queue-most}
 use Rattle.promises.proofs.Sound.{Sound}
 use Rattle.promises.proofs.Room.{the-limits, net-places}
 use Rattle.promises.proofs.Moves.{send-room, arrive-room, back-room, reached-site, reach-room}
@@ -65,9 +64,6 @@ goes-back s = both-ways (backOf s) (λ b. unless b NothingThere s (done Nothing 
 -- ROOM
 
 module _ (s : System) (h : Sound s) where
-  pub net-most : (side : ℕ → Bool) (q : Queue) → NetFits (s .sizes) side q → q .count ≤ 20
-  net-most side q t = omega (arith, queue-most 20 (s .sizes .pend * s .sizes .sites) (messageFits (s .sizes) side) (q .count) (q .items) t, net-places s h)
-
   pub room-to-send : (i : ℕ) → i < s .sizes .sites → 0 < siteAt s i .outgoing .count → s .up .count < 20
   room-to-send i l k = omega (arith, send-room s h i l k, net-places s h)
 

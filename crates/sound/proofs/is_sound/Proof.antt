@@ -1,5 +1,6 @@
 use mathlib.Core.Path.{_≡_, _∙_}
 use mathlib.Core.Bool.{Bool, _&&_}
+use Prim.Native.Nat.{_+_}
 use native.Mathlib.Omega.{arith}
 use borrow.Author.Tests.{not-true, not-false}
 use borrow.Author.Needs.{needs}
@@ -8,10 +9,11 @@ use lib.ListN.{replicate}
 use Rattle.model.specs.declared.System.{System}
 use Rattle.model.specs.Limits.{inLimits}
 use Rattle.model.specs.Sound.{request, reply, memoryFits, fourSites, sitesFit, netFits, partsFit, sound, underWay}
-use Rattle.promises.proofs.Sound.{Parts, parts-open}
+use Rattle.promises.proofs.Sound.{Parts, parts-open, the-limits}
+use Rattle.promises.proofs.Room.{messageCount, counts, net-most}
 use Rattle.sound.specs.Naming.{named}
 use Rattle.sound.specs.Sites.{systemOf}
-use Rattle.sound.proofs.Pairing.{named-under-way, sites-most, pends-most, out-most, in-most, net-most, by-names}
+use Rattle.sound.proofs.Pairing.{named-under-way, by-names}
 use Rattle.sound.proofs.is_sound.Statement.{statement}
 use Rattle.sound.proofs.is_sound.Tie as tie
 
@@ -66,7 +68,7 @@ sites-named-requires c κs =
     let s = o .before .before .before .before .before .before .before .before .before .before .before .before .before .before .before .before .before .before .args .s in
     let e = made s _ _ _ _ _ _ _ (o .before .before .before .before .before .before .fit .ensures) (o .before .before .before .before .before .memory-fits .ensures) (o .before .before .before .before .sites-fit .ensures) (o .before .before .before .far-fits .ensures) (o .before .before .far-fits2 .ensures) (o .before .far-fits3 .ensures) (o .far-fits4 .ensures) in
     let h = fitting s (rw (← e, not-false (o .before .before .before .before .before .before .fit .result && o .before .before .before .before .before .memory-fits .result && o .before .before .before .before .sites-fit .result && o .before .before .before .far-fits .result && o .before .before .far-fits2 .result && o .before .far-fits3 .result && o .far-fits4 .result) (i .if1 .left)) tt) in
-    (out-most s h, in-most s h)
+    (λ i l. counts s h i l .out, λ i l. counts s h i l .inc)
 
 far-named-requires : tie.Need-far-named-requires
 far-named-requires c κs =
@@ -111,7 +113,7 @@ all-named-requires c κs =
     let s = o .before .before .before .before .before .before .before .before .before .before .before .before .before .before .before .before .before .before .args .s in
     let e = made s _ _ _ _ _ _ _ (o .before .before .before .before .before .before .fit .ensures) (o .before .before .before .before .before .memory-fits .ensures) (o .before .before .before .before .sites-fit .ensures) (o .before .before .before .far-fits .ensures) (o .before .before .far-fits2 .ensures) (o .before .far-fits3 .ensures) (o .far-fits4 .ensures) in
     let h = fitting s (rw (← e, not-false (o .before .before .before .before .before .before .fit .result && o .before .before .before .before .before .memory-fits .result && o .before .before .before .before .sites-fit .result && o .before .before .before .far-fits .result && o .before .before .far-fits2 .result && o .before .far-fits3 .result && o .far-fits4 .result) (i .if1 .left)) tt) in
-    (sites-most s h, pends-most s h)
+    (the-limits s h .sites-most, λ i l. counts s h i l .pends)
 
 near-count-requires : tie.Need-near-count-requires
 near-count-requires c κs = search needs
@@ -129,10 +131,10 @@ entry-count-requires c κs =
     let s = o .before .before .before .before .before .before .before .before .before .before .before .before .before .before .before .before .before .before .args .s in
     let e = made s _ _ _ _ _ _ _ (o .before .before .before .before .before .before .fit .ensures) (o .before .before .before .before .before .memory-fits .ensures) (o .before .before .before .before .sites-fit .ensures) (o .before .before .before .far-fits .ensures) (o .before .before .far-fits2 .ensures) (o .before .far-fits3 .ensures) (o .far-fits4 .ensures) in
     let h = fitting s (rw (← e, not-false (o .before .before .before .before .before .before .fit .result && o .before .before .before .before .before .memory-fits .result && o .before .before .before .before .sites-fit .result && o .before .before .before .far-fits .result && o .before .before .far-fits2 .result && o .before .far-fits3 .result && o .far-fits4 .result) (i .if1 .left)) tt) in
-    sites-most s h
+    the-limits s h .sites-most
 
 returns-2 : tie.Need-returns-2
-unfolding sound
+unfolding sound messageCount
 returns-2 c =
     let i = c .before .before .before .before .before .before .before .before .before .before in
     let o = i .before in
@@ -144,13 +146,13 @@ returns-2 c =
     f .far-named4 .ensures ∙
     rw (f .before .far-named3 .ensures, f .before .before .far-named2 .ensures, f .before .before .before .far-named .ensures, f .before .before .before .before .sites-named .ensures, f .before .before .before .before .before .none-named .ensures)
     (named-under-way s (replicate 128 0)) in
+    let n : c .before .before .near-count .result + c .before .far-count .result ≡ messageCount s = omega (arith, c .before .before .near-count .ensures .0, c .before .far-count .ensures .0) in
     rw (
       ← e,
       not-false (o .before .before .before .before .before .before .fit .result && o .before .before .before .before .before .memory-fits .result && o .before .before .before .before .sites-fit .result && o .before .before .before .far-fits .result && o .before .before .far-fits2 .result && o .before .far-fits3 .result && o .far-fits4 .result) (i .if1 .left),
       c .before .before .before .all-named .ensures,
       t,
-      c .before .before .near-count .ensures .0,
-      c .before .far-count .ensures .0,
+      n,
       c .entry-count .ensures,
     )
     (by-names s h)

@@ -4,9 +4,9 @@ use borrow.Author.Tests.{lt-ltb, le-ltb}
 use borrow.Author.Needs.{needs}
 use Rattle.model.specs.Steps.{stepOf}
 use Rattle.model.specs.Sound.{request, reply}
-use Rattle.promises.proofs.Room.{the-limits}
+use Rattle.promises.proofs.Room.{the-limits, net-most}
 use Rattle.steps.specs.Carried.{arrivedOf, backOf}
-use Rattle.steps.proofs.Carries.{arrives, goes-back, net-most, room-to-send, room-to-arrive, room-to-serve, line-served, room-to-go-back, site-reached, room-to-reach}
+use Rattle.steps.proofs.Carries.{arrives, goes-back, room-to-send, room-to-arrive, room-to-serve, line-served, room-to-go-back, site-reached, room-to-reach}
 use Rattle.steps.proofs.Visits.{step-visits, sound-open, fit}
 use Rattle.steps.proofs.step_sound.Statement.{statement}
 use Rattle.steps.proofs.step_sound.Tie as tie
