@@ -4,7 +4,6 @@ use Prim.Native.Nat.{_+_}
 use native.Mathlib.Omega.{arith}
 use borrow.Author.Tests.{not-true, not-false}
 use borrow.Author.Needs.{needs}
-use lib.Dec.{T}
 use lib.ListN.{replicate}
 use Rattle.model.specs.declared.System.{System}
 use Rattle.model.specs.Limits.{inLimits}
@@ -17,9 +16,6 @@ use Rattle.sound.proofs.Pairing.{named-under-way, by-names}
 use Rattle.sound.proofs.is_sound.Statement.{statement}
 use Rattle.sound.proofs.is_sound.Tie as tie
 
-fitting : (s : System) → T (partsFit s) → Parts s
-fitting s t = parts-open s t tt
-
 -- the tests of the parts, one by one
 made : (s : System) (f m g u a v d : Bool) → f ≡ inLimits (s .sizes) → m ≡ memoryFits (s .sizes) (s .memory) →
     g ≡ sitesFit (systemOf (s .sizes) (s .caches) (s .pends) (s .stalls) (s .outgoing) (s .incoming)) →
@@ -27,6 +23,19 @@ made : (s : System) (f m g u a v d : Bool) → f ≡ inLimits (s .sizes) → m �
     v ≡ netFits (s .sizes) reply (s .served) → d ≡ netFits (s .sizes) reply (s .down) → (f && m && g && u && a && v && d) ≡ partsFit s
 unfolding fourSites sitesFit
 made s f m g u a v d p q r w x y z = rw (p, q, r, w, x, y, z)
+
+-- the state, what the tests of its parts said, and what that comes to
+abbrev system-at : tie.After-far-fits4 → System
+system-at o = o .before .before .before .before .before .before .before .before .before .before .before .before .before .before .before .before .before .before .args .s
+
+abbrev tested : tie.After-far-fits4 → Bool
+tested o = o .before .before .before .before .before .before .fit .result && o .before .before .before .before .before .memory-fits .result && o .before .before .before .before .sites-fit .result && o .before .before .before .far-fits .result && o .before .before .far-fits2 .result && o .before .far-fits3 .result && o .far-fits4 .result
+
+parts-tested : (o : tie.After-far-fits4) → tested o ≡ partsFit (system-at o)
+parts-tested o = made (system-at o) _ _ _ _ _ _ _ (o .before .before .before .before .before .before .fit .ensures) (o .before .before .before .before .before .memory-fits .ensures) (o .before .before .before .before .sites-fit .ensures) (o .before .before .before .far-fits .ensures) (o .before .before .far-fits2 .ensures) (o .before .far-fits3 .ensures) (o .far-fits4 .ensures)
+
+fitted : (i : tie.Else1) → Parts (system-at (i .before))
+fitted i = parts-open (system-at (i .before)) (rw (← parts-tested (i .before), not-false (tested (i .before)) (i .if1 .left)) tt) tt
 
 fit-requires : tie.Need-fit-requires
 fit-requires c κs = search needs
@@ -51,69 +60,28 @@ far-fits-requires-4 c κs = search needs
 
 returns : tie.Need-returns
 unfolding sound
-returns c =
-    let i = c in
-    let o = i .before in
-    let s = o .before .before .before .before .before .before .before .before .before .before .before .before .before .before .before .before .before .before .args .s in
-    let e = made s _ _ _ _ _ _ _ (o .before .before .before .before .before .before .fit .ensures) (o .before .before .before .before .before .memory-fits .ensures) (o .before .before .before .before .sites-fit .ensures) (o .before .before .before .far-fits .ensures) (o .before .before .far-fits2 .ensures) (o .before .far-fits3 .ensures) (o .far-fits4 .ensures) in
-    rw (← e, not-true (o .before .before .before .before .before .before .fit .result && o .before .before .before .before .before .memory-fits .result && o .before .before .before .before .sites-fit .result && o .before .before .before .far-fits .result && o .before .before .far-fits2 .result && o .before .far-fits3 .result && o .far-fits4 .result) (i .if1 .taken))
+returns c = rw (← parts-tested (c .before), not-true (tested (c .before)) (c .if1 .taken))
 
 none-named-requires : tie.Need-none-named-requires
 none-named-requires c κs = search needs
 
 sites-named-requires : tie.Need-sites-named-requires
-sites-named-requires c κs =
-    let i = c .before in
-    let o = i .before in
-    let s = o .before .before .before .before .before .before .before .before .before .before .before .before .before .before .before .before .before .before .args .s in
-    let e = made s _ _ _ _ _ _ _ (o .before .before .before .before .before .before .fit .ensures) (o .before .before .before .before .before .memory-fits .ensures) (o .before .before .before .before .sites-fit .ensures) (o .before .before .before .far-fits .ensures) (o .before .before .far-fits2 .ensures) (o .before .far-fits3 .ensures) (o .far-fits4 .ensures) in
-    let h = fitting s (rw (← e, not-false (o .before .before .before .before .before .before .fit .result && o .before .before .before .before .before .memory-fits .result && o .before .before .before .before .sites-fit .result && o .before .before .before .far-fits .result && o .before .before .far-fits2 .result && o .before .far-fits3 .result && o .far-fits4 .result) (i .if1 .left)) tt) in
-    (λ i l. counts s h i l .out, λ i l. counts s h i l .inc)
+sites-named-requires c κs = let h = fitted (c .before) in (λ i l. counts _ h i l .out, λ i l. counts _ h i l .inc)
 
 far-named-requires : tie.Need-far-named-requires
-far-named-requires c κs =
-    let i = c .before .before in
-    let o = i .before in
-    let s = o .before .before .before .before .before .before .before .before .before .before .before .before .before .before .before .before .before .before .args .s in
-    let e = made s _ _ _ _ _ _ _ (o .before .before .before .before .before .before .fit .ensures) (o .before .before .before .before .before .memory-fits .ensures) (o .before .before .before .before .sites-fit .ensures) (o .before .before .before .far-fits .ensures) (o .before .before .far-fits2 .ensures) (o .before .far-fits3 .ensures) (o .far-fits4 .ensures) in
-    let h = fitting s (rw (← e, not-false (o .before .before .before .before .before .before .fit .result && o .before .before .before .before .before .memory-fits .result && o .before .before .before .before .sites-fit .result && o .before .before .before .far-fits .result && o .before .before .far-fits2 .result && o .before .far-fits3 .result && o .far-fits4 .result) (i .if1 .left)) tt) in
-    net-most s h request (s .up) (h .up)
+far-named-requires c κs = let h = fitted (c .before .before) in net-most _ h request _ (h .up)
 
 far-named-requires-2 : tie.Need-far-named-requires-2
-far-named-requires-2 c κs =
-    let i = c .before .before .before in
-    let o = i .before in
-    let s = o .before .before .before .before .before .before .before .before .before .before .before .before .before .before .before .before .before .before .args .s in
-    let e = made s _ _ _ _ _ _ _ (o .before .before .before .before .before .before .fit .ensures) (o .before .before .before .before .before .memory-fits .ensures) (o .before .before .before .before .sites-fit .ensures) (o .before .before .before .far-fits .ensures) (o .before .before .far-fits2 .ensures) (o .before .far-fits3 .ensures) (o .far-fits4 .ensures) in
-    let h = fitting s (rw (← e, not-false (o .before .before .before .before .before .before .fit .result && o .before .before .before .before .before .memory-fits .result && o .before .before .before .before .sites-fit .result && o .before .before .before .far-fits .result && o .before .before .far-fits2 .result && o .before .far-fits3 .result && o .far-fits4 .result) (i .if1 .left)) tt) in
-    net-most s h request (s .arrived) (h .arrived)
+far-named-requires-2 c κs = let h = fitted (c .before .before .before) in net-most _ h request _ (h .arrived)
 
 far-named-requires-3 : tie.Need-far-named-requires-3
-far-named-requires-3 c κs =
-    let i = c .before .before .before .before in
-    let o = i .before in
-    let s = o .before .before .before .before .before .before .before .before .before .before .before .before .before .before .before .before .before .before .args .s in
-    let e = made s _ _ _ _ _ _ _ (o .before .before .before .before .before .before .fit .ensures) (o .before .before .before .before .before .memory-fits .ensures) (o .before .before .before .before .sites-fit .ensures) (o .before .before .before .far-fits .ensures) (o .before .before .far-fits2 .ensures) (o .before .far-fits3 .ensures) (o .far-fits4 .ensures) in
-    let h = fitting s (rw (← e, not-false (o .before .before .before .before .before .before .fit .result && o .before .before .before .before .before .memory-fits .result && o .before .before .before .before .sites-fit .result && o .before .before .before .far-fits .result && o .before .before .far-fits2 .result && o .before .far-fits3 .result && o .far-fits4 .result) (i .if1 .left)) tt) in
-    net-most s h reply (s .served) (h .served)
+far-named-requires-3 c κs = let h = fitted (c .before .before .before .before) in net-most _ h reply _ (h .served)
 
 far-named-requires-4 : tie.Need-far-named-requires-4
-far-named-requires-4 c κs =
-    let i = c .before .before .before .before .before in
-    let o = i .before in
-    let s = o .before .before .before .before .before .before .before .before .before .before .before .before .before .before .before .before .before .before .args .s in
-    let e = made s _ _ _ _ _ _ _ (o .before .before .before .before .before .before .fit .ensures) (o .before .before .before .before .before .memory-fits .ensures) (o .before .before .before .before .sites-fit .ensures) (o .before .before .before .far-fits .ensures) (o .before .before .far-fits2 .ensures) (o .before .far-fits3 .ensures) (o .far-fits4 .ensures) in
-    let h = fitting s (rw (← e, not-false (o .before .before .before .before .before .before .fit .result && o .before .before .before .before .before .memory-fits .result && o .before .before .before .before .sites-fit .result && o .before .before .before .far-fits .result && o .before .before .far-fits2 .result && o .before .far-fits3 .result && o .far-fits4 .result) (i .if1 .left)) tt) in
-    net-most s h reply (s .down) (h .down)
+far-named-requires-4 c κs = let h = fitted (c .before .before .before .before .before) in net-most _ h reply _ (h .down)
 
 all-named-requires : tie.Need-all-named-requires
-all-named-requires c κs =
-    let i = c .before .before .before .before .before .before in
-    let o = i .before in
-    let s = o .before .before .before .before .before .before .before .before .before .before .before .before .before .before .before .before .before .before .args .s in
-    let e = made s _ _ _ _ _ _ _ (o .before .before .before .before .before .before .fit .ensures) (o .before .before .before .before .before .memory-fits .ensures) (o .before .before .before .before .sites-fit .ensures) (o .before .before .before .far-fits .ensures) (o .before .before .far-fits2 .ensures) (o .before .far-fits3 .ensures) (o .far-fits4 .ensures) in
-    let h = fitting s (rw (← e, not-false (o .before .before .before .before .before .before .fit .result && o .before .before .before .before .before .memory-fits .result && o .before .before .before .before .sites-fit .result && o .before .before .before .far-fits .result && o .before .before .far-fits2 .result && o .before .far-fits3 .result && o .far-fits4 .result) (i .if1 .left)) tt) in
-    (the-limits s h .sites-most, λ i l. counts s h i l .pends)
+all-named-requires c κs = let h = fitted (c .before .before .before .before .before .before) in (the-limits _ h .sites-most, λ i l. counts _ h i l .pends)
 
 near-count-requires : tie.Need-near-count-requires
 near-count-requires c κs = search needs
@@ -125,22 +93,13 @@ add-messages : tie.Need-add-messages
 add-messages c = record { fits = omega (arith, c .far-count .ensures .1, c .before .near-count .ensures .1) }
 
 entry-count-requires : tie.Need-entry-count-requires
-entry-count-requires c κs =
-    let i = c .before .before .before .before .before .before .before .before .before in
-    let o = i .before in
-    let s = o .before .before .before .before .before .before .before .before .before .before .before .before .before .before .before .before .before .before .args .s in
-    let e = made s _ _ _ _ _ _ _ (o .before .before .before .before .before .before .fit .ensures) (o .before .before .before .before .before .memory-fits .ensures) (o .before .before .before .before .sites-fit .ensures) (o .before .before .before .far-fits .ensures) (o .before .before .far-fits2 .ensures) (o .before .far-fits3 .ensures) (o .far-fits4 .ensures) in
-    let h = fitting s (rw (← e, not-false (o .before .before .before .before .before .before .fit .result && o .before .before .before .before .before .memory-fits .result && o .before .before .before .before .sites-fit .result && o .before .before .before .far-fits .result && o .before .before .far-fits2 .result && o .before .far-fits3 .result && o .far-fits4 .result) (i .if1 .left)) tt) in
-    the-limits s h .sites-most
+entry-count-requires c κs = let h = fitted (c .before .before .before .before .before .before .before .before .before) in the-limits _ h .sites-most
 
 returns-2 : tie.Need-returns-2
 unfolding sound messageCount
 returns-2 c =
     let i = c .before .before .before .before .before .before .before .before .before .before in
-    let o = i .before in
-    let s = o .before .before .before .before .before .before .before .before .before .before .before .before .before .before .before .before .before .before .args .s in
-    let e = made s _ _ _ _ _ _ _ (o .before .before .before .before .before .before .fit .ensures) (o .before .before .before .before .before .memory-fits .ensures) (o .before .before .before .before .sites-fit .ensures) (o .before .before .before .far-fits .ensures) (o .before .before .far-fits2 .ensures) (o .before .far-fits3 .ensures) (o .far-fits4 .ensures) in
-    let h = fitting s (rw (← e, not-false (o .before .before .before .before .before .before .fit .result && o .before .before .before .before .before .memory-fits .result && o .before .before .before .before .sites-fit .result && o .before .before .before .far-fits .result && o .before .before .far-fits2 .result && o .before .far-fits3 .result && o .far-fits4 .result) (i .if1 .left)) tt) in
+    let s = system-at (i .before) in
     let f = c .before .before .before .before in
     let t : f .far-named4 .result .of ≡ named (underWay s) (replicate 128 0) =
     f .far-named4 .ensures ∙
@@ -148,14 +107,14 @@ returns-2 c =
     (named-under-way s (replicate 128 0)) in
     let n : c .before .before .near-count .result + c .before .far-count .result ≡ messageCount s = omega (arith, c .before .before .near-count .ensures .0, c .before .far-count .ensures .0) in
     rw (
-      ← e,
-      not-false (o .before .before .before .before .before .before .fit .result && o .before .before .before .before .before .memory-fits .result && o .before .before .before .before .sites-fit .result && o .before .before .before .far-fits .result && o .before .before .far-fits2 .result && o .before .far-fits3 .result && o .far-fits4 .result) (i .if1 .left),
+      ← parts-tested (i .before),
+      not-false (tested (i .before)) (i .if1 .left),
       c .before .before .before .all-named .ensures,
       t,
       n,
       c .entry-count .ensures,
     )
-    (by-names s h)
+    (by-names s (fitted i))
 
 pub is-sound-spec : {M : Type 1} → statement M
 is-sound-spec =
