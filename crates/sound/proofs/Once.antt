@@ -126,10 +126,10 @@ module _ (s : System) (differ : (i : ℕ) → i < s .sizes .sites → T (unlike 
           (λ e v. eqb→eq (count (isFor i e) ms) 1 v ∙ sym (ind-T (eqb (count (isFor i e) ms) 1) v)) (siteAt s i .pends) (siteAt s i .entries) u ∙
           tally-all (λ e. eqb (count (isFor i e) ms) 1) (siteAt s i .pends) (siteAt s i .entries) u
 
-  pub by-number : (ms : List Message) → T (each (λ m. ltb (m .site) (s .sizes .sites)) ms) →
+  pub as-many : (ms : List Message) → T (each (λ m. ltb (m .site) (s .sizes .sites)) ms) →
       (exactlyOne s ms && eqb (count (λ m. true) ms) (sumBelow (s .sizes .sites) (λ i. siteAt s i .pends))) ≡ messagesFit s ms
   unfolding messagesFit noOthers
-  by-number ms t = same-test (exactlyOne s ms && eqb (count (λ m. true) ms) entries) (exactlyOne s ms && each waited ms) closed opened
+  as-many ms t = same-test (exactlyOne s ms && eqb (count (λ m. true) ms) entries) (exactlyOne s ms && each waited ms) closed opened
     where
       entries : ℕ
       entries = sumBelow (s .sizes .sites) (λ i. siteAt s i .pends)

@@ -19,16 +19,16 @@ use Rattle.model.specs.Sound.{messageFits, freeEntry, entryFits, isFor, underWa
 use Rattle.promises.proofs.Balance.{count-total}
 use Rattle.promises.proofs.Sound.{Parts, the-limits, ready, ready-pends, all-good, all-sited}
 use Rattle.promises.proofs.Room.{messageCount, all-total}
-use Rattle.sound.specs.Naming.{nearAt, named, oneFor}
-use Rattle.sound.proofs.Once.{by-number}
-use Rattle.sound.proofs.Table.{named-append, nameable, table-one}
+use Rattle.sound.specs.Naming.{nearAt, tallied, oneFor}
+use Rattle.sound.proofs.Once.{as-many}
+use Rattle.sound.proofs.Table.{tallied-append, nameable, table-one}
 
 -- the table of all messages, queue by queue
-pub named-under-way : (s : System) (t : List ℕ) →
-    named (take (s .down .count) (s .down .items)) (named (take (s .served .count) (s .served .items)) (named (take (s .arrived .count) (s .arrived .items))
-    (named (take (s .up .count) (s .up .items)) (named (allOf 4 (nearAt (s .outgoing) (s .incoming))) t)))) ≡ named (underWay s) t
+pub tallied-under-way : (s : System) (t : List ℕ) →
+    tallied (take (s .down .count) (s .down .items)) (tallied (take (s .served .count) (s .served .items)) (tallied (take (s .arrived .count) (s .arrived .items))
+    (tallied (take (s .up .count) (s .up .items)) (tallied (allOf 4 (nearAt (s .outgoing) (s .incoming))) t)))) ≡ tallied (underWay s) t
 unfolding underWay
-named-under-way s t = rw (named-append, named-append, named-append, named-append)
+tallied-under-way s t = rw (tallied-append, tallied-append, tallied-append, tallied-append)
 
 module _ (s : System) (h : Parts s) where
   all-nameable : T (each nameable (underWay s))
@@ -43,7 +43,7 @@ module _ (s : System) (h : Parts s) where
           (lt→ltb (m .line) 16 (omega (arith, ltb→lt (m .line) (s .sizes .lines) b, the-limits s h .lines-most)))
 
   abbrev table : List ℕ
-  table = named (underWay s) (replicate 128 0)
+  table = tallied (underWay s) (replicate 128 0)
 
   by-table : allBelow (s .sizes .sites) (λ i. eachOf (oneFor table i) (siteAt s i .pends) (siteAt s i .entries)) ≡ exactlyOne s (underWay s)
   unfolding exactlyOne entryFits
@@ -81,4 +81,4 @@ module _ (s : System) (h : Parts s) where
       eqb (messageCount s) (sumBelow (s .sizes .sites) (λ i. siteAt s i .pends))) ≡ messagesFit s (underWay s)
   by-names =
       rw (by-table, ← all-total s h, ← count-total (λ m. true) s)
-      (by-number s (λ i l. ready s h i l .own .lines) (λ i l. ready-pends (s .sizes) i (siteAt s i) (ready s h i l)) (underWay s) (all-sited s h))
+      (as-many s (λ i l. ready s h i l .own .lines) (λ i l. ready-pends (s .sizes) i (siteAt s i) (ready s h i l)) (underWay s) (all-sited s h))

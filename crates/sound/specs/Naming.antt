@@ -19,8 +19,8 @@ nearAt out in′ i =
 abbrev pub nameAt : ℕ → ℕ → ℕ → ℕ
 nameAt i L k = i % 4 * 32 + L % 16 * 2 + k % 2
 
-abbrev pub nameOf : Message → ℕ
-nameOf m = nameAt (m .site) (m .line) (m .kind)
+abbrev pub messageName : Message → ℕ
+messageName m = nameAt (m .site) (m .line) (m .kind)
 
 -- one more: 0 is none, 1 one, 3 more than one
 abbrev pub oneMore : ℕ → ℕ
@@ -28,11 +28,11 @@ oneMore n = n % 2 * 2 + 1
 
 -- the table with a message's name counted
 abbrev pub counted : List ℕ → Message → List ℕ
-counted t m = set t (nameOf m) (oneMore (getD t (nameOf m) 0))
+counted t m = set t (messageName m) (oneMore (getD t (messageName m) 0))
 
-unfoldable pub named : List Message → List ℕ → List ℕ
-named [] t = t
-named (m ∷ ms) t = named ms (counted t m)
+unfoldable pub tallied : List Message → List ℕ → List ℕ
+tallied [] t = t
+tallied (m ∷ ms) t = tallied ms (counted t m)
 
 -- exactly one message has the name of what the entry waits for
 abbrev pub oneFor : List ℕ → ℕ → Entry → Bool

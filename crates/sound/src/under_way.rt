@@ -6,7 +6,7 @@ ghost use lib.ListN.{getD, replicate, take};
 ghost use Rattle.lists.specs.Places.{allBelow, sumBelow, eachOf, allOf};
 ghost use Rattle.model.specs.Parts.{pastPends, pastSiteQueue};
 ghost use Rattle.model.specs.Sound.{tripFor};
-ghost use Rattle.sound.specs.Naming.{nearAt, nameAt, named, oneFor};
+ghost use Rattle.sound.specs.Naming.{nearAt, nameAt, tallied, oneFor};
 use model::Pends;
 use model::Queue;
 use model::SiteQueue;
@@ -46,7 +46,7 @@ fn trip_for(kind: u8) -> u8
 // The table with the messages of a site's queue.
 fn near_named(q: SiteQueue, t: Names) -> Names
     requires { ⌜ q .count ≤ 5 ⌝ }
-    ensures { λ r. ⌜ r .of ≡ named (take (q .count) (q .items)) (t .of) ⌝ }
+    ensures { λ r. ⌜ r .of ≡ tallied (take (q .count) (q .items)) (t .of) ⌝ }
 {
     let n = q.count as usize;
     let mut next = t;
@@ -64,7 +64,7 @@ fn near_named(q: SiteQueue, t: Names) -> Names
 // The table with the messages of a network, or of a queue of memory.
 pub(crate) fn far_named(q: Queue, t: Names) -> Names
     requires { ⌜ q .count ≤ 20 ⌝ }
-    ensures { λ r. ⌜ r .of ≡ named (take (q .count) (q .items)) (t .of) ⌝ }
+    ensures { λ r. ⌜ r .of ≡ tallied (take (q .count) (q .items)) (t .of) ⌝ }
 {
     let n = q.count as usize;
     let mut next = t;
@@ -83,7 +83,7 @@ pub(crate) fn far_named(q: Queue, t: Names) -> Names
 pub(crate) fn sites_named(outgoing: [SiteQueue; 4], incoming: [SiteQueue; 4], t: Names) -> Names
     requires { ⌜ ((i : ℕ) → i < 4 → getD outgoing i pastSiteQueue .count ≤ 5) ⌝ }
     requires { ⌜ ((i : ℕ) → i < 4 → getD incoming i pastSiteQueue .count ≤ 5) ⌝ }
-    ensures { λ r. ⌜ r .of ≡ named (allOf 4 (nearAt outgoing incoming)) (t .of) ⌝ }
+    ensures { λ r. ⌜ r .of ≡ tallied (allOf 4 (nearAt outgoing incoming)) (t .of) ⌝ }
 {
     let mut next = t;
     let mut i: usize = 0;

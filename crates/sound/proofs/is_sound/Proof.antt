@@ -10,9 +10,9 @@ use Rattle.model.specs.Limits.{inLimits}
 use Rattle.model.specs.Sound.{request, reply, memoryFits, fourSites, sitesFit, netFits, partsFit, sound, underWay}
 use Rattle.promises.proofs.Sound.{Parts, parts-open, the-limits}
 use Rattle.promises.proofs.Room.{messageCount, counts, net-most}
-use Rattle.sound.specs.Naming.{named}
+use Rattle.sound.specs.Naming.{tallied}
 use Rattle.sound.specs.Sites.{systemOf}
-use Rattle.sound.proofs.Pairing.{named-under-way, by-names}
+use Rattle.sound.proofs.Pairing.{tallied-under-way, by-names}
 use Rattle.sound.proofs.is_sound.Statement.{statement}
 use Rattle.sound.proofs.is_sound.Tie as tie
 
@@ -101,10 +101,10 @@ returns-2 c =
     let i = c .before .before .before .before .before .before .before .before .before .before in
     let s = system-at (i .before) in
     let f = c .before .before .before .before in
-    let t : f .far-named4 .result .of ≡ named (underWay s) (replicate 128 0) =
+    let t : f .far-named4 .result .of ≡ tallied (underWay s) (replicate 128 0) =
     f .far-named4 .ensures ∙
     rw (f .before .far-named3 .ensures, f .before .before .far-named2 .ensures, f .before .before .before .far-named .ensures, f .before .before .before .before .sites-named .ensures, f .before .before .before .before .before .none-named .ensures)
-    (named-under-way s (replicate 128 0)) in
+    (tallied-under-way s (replicate 128 0)) in
     let n : c .before .before .near-count .result + c .before .far-count .result ≡ messageCount s = omega (arith, c .before .before .near-count .ensures .0, c .before .far-count .ensures .0) in
     rw (
       ← parts-tested (i .before),

@@ -4,19 +4,19 @@ use native.Mathlib.Numerals.{add-one}
 use native.Mathlib.Omega.{arith}
 use borrow.Author.Needs.{needs}
 use Rattle.lists.specs.Places.{allOf}
-use Rattle.sound.specs.Naming.{nearAt, named}
-use Rattle.sound.proofs.Table.{named-append}
+use Rattle.sound.specs.Naming.{nearAt, tallied}
+use Rattle.sound.proofs.Table.{tallied-append}
 use Rattle.sound.proofs.under_way.sites_named.Statement.{statement}
 use Rattle.sound.proofs.under_way.sites_named.Tie as tie
 
 abbrev Inv-loop : tie.InvT-loop
-Inv-loop outgoing incoming next₀ i₀ next i = (i ≤ 4) × (next .of ≡ named (allOf i (nearAt outgoing incoming)) (next₀ .of))
+Inv-loop outgoing incoming next₀ i₀ next i = (i ≤ 4) × (next .of ≡ tallied (allOf i (nearAt outgoing incoming)) (next₀ .of))
 
 abbrev μ-loop : tie.MeasureT-loop
 μ-loop outgoing incoming next₀ i₀ next i = 4 - i
 
 loop-holds : tie.Need-loop-holds Inv-loop μ-loop
-unfolding named allOf
+unfolding tallied allOf
 loop-holds c = search needs
 
 mul-out : tie.Need-mul-out Inv-loop μ-loop
@@ -47,7 +47,7 @@ loop-again : tie.Need-loop-again Inv-loop μ-loop
 unfolding allOf
 loop-again c =
     let l = c .before .before .before .before .before in
-    (search needs, rw (add-one, named-append, named-append, ← l .loop .inv .1, ← c .before .near-named .ensures) (c .near-named2 .ensures))
+    (search needs, rw (add-one, tallied-append, tallied-append, ← l .loop .inv .1, ← c .before .near-named .ensures) (c .near-named2 .ensures))
 
 returns : tie.Need-returns Inv-loop μ-loop
 returns c = let e : c .before .loop .i ≡ 4 = omega arith in rw e at (c .before .loop .inv .1)
