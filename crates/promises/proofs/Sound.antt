@@ -8,7 +8,7 @@ use lib.Dec.{T, leb, ltb, eqb, leb→le, le→leb, ltb→lt, lt→ltb, eqb→eq,
 use lib.ListN.{length, take}
 use Rattle.lists.specs.Places.{array, eachOf, noneOf, unlike, allBelow, count, each, allOf}
 use Rattle.lists.proofs.Tests.{and-l, and-r, both, by-test, cond-T, cond-F, not-T}
-use Rattle.lists.proofs.Places.{array-length, array-most}
+use Rattle.lists.proofs.Places.{array-length, array-most, array-at}
 use Rattle.lists.proofs.Below.{below-at, below-all}
 use Rattle.lists.proofs.Counts.{each-append, each-allOf, each-take, each-map}
 use Rattle.model.specs.declared.Sizes.{Sizes}
@@ -19,9 +19,10 @@ use Rattle.model.specs.declared.CacheSet.{CacheSet}
 use Rattle.model.specs.declared.Queue.{Queue}
 use Rattle.model.specs.declared.System.{System}
 use Rattle.model.specs.Limits.{inLimits}
-use Rattle.model.specs.Parts.{Site, siteAt}
+use Rattle.model.specs.Parts.{Site, siteAt, pastWaiting}
 use Rattle.model.specs.Sound.{request, reply, ofSite, freeMessage, freeEntry, freeWaiting, messageFits, queueFits, siteQueueFits, waitingFits, stallsFit, entryFits, pendsFit, memoryFits, cacheFits, cachedApart, sameLine, sameTag, samePendTag, pendsUnder, tagsDiffer, ownFits, siteFits, freeSite, siteOk, fourSites, sitesFit, siteMessages, underWay, partsFit, sound}
 use Rattle.model.specs.Sets.{cached}
+use Rattle.model.specs.Steps.{stallHead}
 use Rattle.promises.proofs.Sites.{Four, four-open, four-close}
 use Rattle.promises.proofs.Balance.{Balance, balance-open, balance-close}
 use Rattle.promises.proofs.Queues.{NetFits, queue-fits}
@@ -151,6 +152,17 @@ module _ (z : Sizes) (i : ℕ) (x : Site) (r : Ready z i x) where
 
   pub stalls-room : x .stalls < z .stall → x .stalls < length (x .waiting)
   stalls-room h = omega (arith, h, r .limits .stall-most, array-length 8 (waitingFits z) freeWaiting (x .stalls) (x .waiting) (r .own .waiting))
+
+  pub pends-most : x .pends ≤ 5
+  pends-most = omega (arith, r .own .n-most, r .limits .pend-most)
+
+  -- what waits first fits, and is of the first four kinds
+  pub ready-head : 0 < x .stalls → T (waitingFits z (stallHead x))
+  ready-head l = array-at 8 (waitingFits z) freeWaiting (x .stalls) (x .waiting) (r .own .waiting) 0 pastWaiting l
+
+  pub ready-kind : 0 < x .stalls → stallHead x .kind < 4
+  unfolding waitingFits
+  ready-kind l = let t = ready-head l in ltb→lt (stallHead x .kind) 4 (search (and-l, and-r))
 
 -- A SITE PAST THE SIZES
 

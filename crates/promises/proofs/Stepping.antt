@@ -4,8 +4,7 @@ use Prim.Native.Nat.{ℕ, _<_}
 use native.Mathlib.Omega.{arith}
 use lib.Dec.{T, leb, ltb, ltb→lt, nltb→le, nleb→lt}
 use lib.ListN.{getD}
-use Rattle.lists.proofs.Tests.{and-l, and-r, by-cond}
-use Rattle.lists.proofs.Places.{array-at}
+use Rattle.lists.proofs.Tests.{by-cond}
 use Rattle.model.specs.declared.Message.{Message}
 use Rattle.model.specs.declared.Waiting.{Waiting}
 use Rattle.model.specs.declared.Place.{Place}
@@ -21,13 +20,13 @@ use Rattle.model.specs.declared.Refusal.{Refusal}
 use Rattle.model.specs.declared.Refusal.the-variants.{NoSuchSite, AddressPastLast, TagOutstanding, MayNotIssue, StallFull, NothingThere, MustStillWait}
 use Rattle.model.specs.Kinds.{reconcile}
 use Rattle.model.specs.Fresh.{done, refused}
-use Rattle.model.specs.Parts.{Site, siteAt, putSite, pastEntry, pastWaiting, withIncoming, siteHead, siteRest, netAt}
-use Rattle.model.specs.Sound.{waitingFits, freeWaiting}
+use Rattle.model.specs.Parts.{Site, siteAt, putSite, pastEntry, withIncoming, siteHead, siteRest, netAt}
+use Rattle.model.specs.Sound.{waitingFits}
 use Rattle.model.specs.Issue.{kindOf, isFence, asWaiting, addressesFit, tagFree, mayIssue}
 use Rattle.model.specs.Handling.{placeOf, factsOf, decided, performed, mustWait}
 use Rattle.model.specs.Take.{entryFor, taken}
 use Rattle.model.specs.Steps.{handledAt, stalledAt, entered, issuedAt, issued, stallHead, unstalled, resumed, retriedAt, retried, afterSend, sentFrom, sent, afterArriveMemory, arrivedMemory, afterServe, serveStep, afterSendBack, sentBack, afterArriveSite, arrivedSite, tookAt, took, stepOf}
-use Rattle.promises.proofs.Sound.{Sound}
+use Rattle.promises.proofs.Sound.{Sound, ready-head, ready-kind}
 use Rattle.promises.proofs.Room.{ready}
 use Rattle.promises.proofs.Rows.{Row, row}
 
@@ -130,13 +129,11 @@ module _ (s : System) (h : Sound s) (i : ℕ) where
   abbrev y : Site
   y = siteAt s i
 
-  -- what waits is of the first four kinds
   pub head-fits : i < s .sizes .sites → 0 < y .stalls → T (waitingFits (s .sizes) (stallHead y))
-  head-fits l k = array-at 8 (waitingFits (s .sizes)) freeWaiting (y .stalls) (y .waiting) (ready s h i l .own .waiting) 0 pastWaiting k
+  head-fits l k = ready-head (s .sizes) i y (ready s h i l) k
 
   pub head-kind : i < s .sizes .sites → 0 < y .stalls → stallHead y .kind < 4
-  unfolding waitingFits
-  head-kind l k = let t = head-fits l k in ltb→lt (stallHead y .kind) 4 (search (and-l, and-r))
+  head-kind l k = ready-kind (s .sizes) i y (ready s h i l) k
 
   resumed-as : i < s .sizes .sites → 0 < y .stalls → (a : Action) → Row (s .sizes) (unstalled y) (stallHead y) (headPlace s i) a →
       S′ (resumed s i (unstalled y) (stallHead y) (headPlace s i) a)

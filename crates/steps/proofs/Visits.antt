@@ -29,12 +29,12 @@ use Rattle.model.specs.Limits.{addresses}
 use Rattle.model.specs.Fresh.{done, refused}
 use Rattle.model.specs.Issue.{asWaiting, addressesFit, tagFree, mayIssue}
 use Rattle.model.specs.Parts.{Site, siteAt, putSite, withIncoming, siteHead, siteRest, pastEntry, pastWaiting, pastCache, pastPends, pastStalls, pastSiteQueue}
-use Rattle.model.specs.Sound.{waitingFits, entryFits, freeWaiting, freeEntry, sound}
+use Rattle.model.specs.Sound.{waitingFits, entryFits, freeEntry, sound}
 use Rattle.model.specs.Take.{entryFor, taken}
 use Rattle.model.specs.Handling.{placeOf, factsOf, decided, performed, mustWait}
 use Rattle.model.specs.Steps.{unless, handledAt, issued, issuedAt, retried, took, stepOf, stalledAt, entered, enteredAt, unstalled, resumed, resumedAt, takenAt, tookAt}
 use Rattle.model.proofs.Step as T
-use Rattle.promises.proofs.Sound.{Sound, opened}
+use Rattle.promises.proofs.Sound.{Sound, ready-head, opened}
 use Rattle.promises.proofs.Room.{ready, site-room}
 use Rattle.promises.proofs.Took.{entry-below}
 use Rattle.promises.proofs.Rows.{Row, load-hit, store-hit, fetches, not-cached, commit-clean, reconcile-dirty, drops, writes-kept, writes-dropped, waits-full, waits-pending, row}
@@ -160,24 +160,13 @@ took-handled s i x y u p e l d g =
 -- WHAT FITS
 
 module _ (z : Sizes) (i : ℕ) (x : Here) (f : Fit z i (siteOf x)) where
-  pub pends-most : x .pends .count ≤ 5
-  pends-most = omega (arith, f .ready .own .n-most, f .ready .limits .pend-most)
-
   -- the head of the stall queue
-  module _ (l : 0 < x .stalls .count) where
-    head-fits : T (waitingFits z (getD (x .stalls .waiting) 0 pastWaiting))
-    head-fits = array-at 8 (waitingFits z) freeWaiting (x .stalls .count) (x .stalls .waiting) (f .ready .own .waiting) 0 pastWaiting l
-
-    pub head-kind : getD (x .stalls .waiting) 0 pastWaiting .kind < 4
-    unfolding waitingFits
-    head-kind = let t = head-fits in ltb→lt (getD (x .stalls .waiting) 0 pastWaiting .kind) 4 (search (and-l, and-r))
-
-    pub head-word : getD (x .stalls .waiting) 0 pastWaiting .word < 4
-    unfolding waitingFits
-    head-word =
-        let t = head-fits in
-        let u = ltb→lt (getD (x .stalls .waiting) 0 pastWaiting .word) (z .words) (search (and-l, and-r)) in
-        omega (arith, u, f .ready .limits .words-most)
+  pub head-word : 0 < x .stalls .count → getD (x .stalls .waiting) 0 pastWaiting .word < 4
+  unfolding waitingFits
+  head-word l =
+      let t = ready-head z i (siteOf x) (f .ready) l in
+      let u = ltb→lt (getD (x .stalls .waiting) 0 pastWaiting .word) (z .words) (search (and-l, and-r)) in
+      omega (arith, u, f .ready .limits .words-most)
 
   -- an entry in use
   pub entry-word : (p : ℕ) → p < x .pends .count → getD (x .pends .entries) p pastEntry .word < 4

@@ -6,10 +6,11 @@ use borrow.Author.Needs.{needs}
 use Rattle.model.specs.declared.Refusal.the-variants.{NothingThere}
 use Rattle.model.specs.Steps.{stallHead, retriedAt}
 use Rattle.model.specs.Handling.{placeOf}
+use Rattle.promises.proofs.Sound.{ready-kind}
 use Rattle.steps.specs.declared.visit.Choice.{Choice}
 use Rattle.steps.specs.declared.here.Here.{Here}
 use Rattle.steps.specs.View.{siteOf}
-use Rattle.steps.proofs.Visits.{refused-back, retry-waits, retry-handled, head-kind, head-word, ask-room}
+use Rattle.steps.proofs.Visits.{refused-back, retry-waits, retry-handled, head-word, ask-room}
 use Rattle.steps.proofs.visit.retry.Statement.{statement}
 use Rattle.steps.proofs.visit.retry.Tie as tie
 
@@ -64,7 +65,7 @@ perform-requires c κs =
       m .sets-some,
       m .sets-most,
       head-word (args .z) (args .i) (args .x) (start .pre) l,
-      ask-room (args .z) y (stallHead (siteOf (args .x))) (placeOf (args .z) (siteOf y) (stallHead (siteOf (args .x)) .line)) (mid .choose .result .action) (ap (λ (q : Choice). q .action) (mid .choose .ensures)) (head-kind (args .z) (args .i) (args .x) (start .pre) l) (m .pend-most)
+      ask-room (args .z) y (stallHead (siteOf (args .x))) (placeOf (args .z) (siteOf y) (stallHead (siteOf (args .x)) .line)) (mid .choose .result .action) (ap (λ (q : Choice). q .action) (mid .choose .ensures)) (ready-kind (args .z) (args .i) (siteOf (args .x)) (start .pre .ready) l) (m .pend-most)
           (omega (arith, start .pre .room)),
     )
 

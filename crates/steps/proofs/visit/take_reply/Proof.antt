@@ -5,8 +5,9 @@ use borrow.Author.Tests.{le-ltb}
 use borrow.Author.Needs.{needs}
 use Rattle.model.specs.declared.Refusal.the-variants.{NothingThere}
 use Rattle.model.specs.Steps.{tookAt}
+use Rattle.promises.proofs.Sound.{pends-most}
 use Rattle.steps.specs.declared.here.Here.{Here}
-use Rattle.steps.proofs.Visits.{refused-back, took-handled, pends-most, entry-word}
+use Rattle.steps.proofs.Visits.{refused-back, took-handled, entry-word}
 use Rattle.steps.proofs.visit.take_reply.Statement.{statement}
 use Rattle.steps.proofs.visit.take_reply.Tie as tie
 
@@ -30,14 +31,14 @@ mul-e c =
     let start = c .before .before .before .before .before in
     let args = start .args in
     let l : 0 < args .x .incoming .count = omega arith in
-    omega (arith, c .entry-for .ensures, start .pre .entry l, pends-most (args .z) (args .i) (args .x) (start .pre))
+    omega (arith, c .entry-for .ensures, start .pre .entry l, pends-most (args .z) (args .i) _ (start .pre .ready))
 
 element-copy-out-e : tie.Need-element-copy-out-e
 element-copy-out-e c =
     let start = c .before .before .before .before .before in
     let args = start .args in
     let l : 0 < args .x .incoming .count = omega arith in
-    omega (arith, c .entry-for .ensures, start .pre .entry l, pends-most (args .z) (args .i) (args .x) (start .pre))
+    omega (arith, c .entry-for .ensures, start .pre .entry l, pends-most (args .z) (args .i) _ (start .pre .ready))
 
 site-rest-requires : tie.Need-site-rest-requires
 site-rest-requires c κs = search needs
@@ -50,7 +51,7 @@ take-requires c κs =
     let l : 0 < args .x .incoming .count = omega arith in (
       m .sets-some,
       m .sets-most,
-      omega (arith, start .pre .room, pends-most (args .z) (args .i) (args .x) (start .pre)),
+      omega (arith, start .pre .room, pends-most (args .z) (args .i) _ (start .pre .ready)),
       entry-word (args .z) (args .i) (args .x) (start .pre) (c .before .before .entry-for .result) (omega (arith, c .before .before .entry-for .ensures, start .pre .entry l)),
     )
 
