@@ -1,6 +1,6 @@
 use mathlib.Core.Logic.{⊎-elim}
 use mathlib.Core.Path.{sym, _∙_}
-use Prim.Native.Nat.{_+_, _-_, _≤_}
+use Prim.Native.Nat.{_+_, _-_, _≤_, _<_}
 use native.Mathlib.Omega.{arith}
 use lib.ListN.{length}
 use borrow.Author.Needs.{needs}
@@ -29,41 +29,24 @@ step-requires c κs = search needs
 is-done-requires : tie.Need-is-done-requires Inv-steps μ-steps
 is-done-requires c κs = search needs
 
+-- a step read takes the offset on, within the bytes
+on : (g : tie.After-got Inv-steps μ-steps) → (g .before .before .before .steps .at < g .got .given .0 .1 .0) × (g .got .given .0 .1 .0 ≤ length (g .before .before .before .before .before .args .bytes .now))
+on g = step-on (g .before .before .before .before .before .args .bytes .now) (g .before .before .before .steps .at) (g .got .given .0 .1 .0) (g .got .given .0 .0) (sym (g .before .before .read-step .ensures) ∙ g .got .given .1)
+
 add-accepted : tie.Need-add-accepted Inv-steps μ-steps
-add-accepted c =
-    let got = c .before .before .before .before .got in
-    let read-step = c .before .before .before .before .before .before .read-step in
-    let steps = c .before .before .before .before .before .before .before .steps in
-    let args = c .before .before .before .before .before .before .before .before .before .args in
-    let on = step-on (args .bytes .now) (steps .at) (got .given .0 .1 .0) (got .given .0 .0) (sym (read-step .ensures) ∙ got .given .1) in
-    omega (arith, on, steps .inv)
+add-accepted c = let g = c .before .before .before .before in omega (arith, on g, g .before .before .before .steps .inv)
 
 add-steps : tie.Need-add-steps Inv-steps μ-steps
-add-steps c =
-    let got = c .before .before .before .before .before .got in
-    let read-step = c .before .before .before .before .before .before .before .read-step in
-    let steps = c .before .before .before .before .before .before .before .before .steps in
-    let args = c .before .before .before .before .before .before .before .before .before .before .args in
-    let on = step-on (args .bytes .now) (steps .at) (got .given .0 .1 .0) (got .given .0 .0) (sym (read-step .ensures) ∙ got .given .1) in
-    omega (arith, on, steps .inv)
+add-steps c = let g = c .before .before .before .before .before in omega (arith, on g, g .before .before .before .steps .inv)
 
 steps-less : tie.Need-steps-less Inv-steps μ-steps
-steps-less c =
-    let got = c .before .before .before .before .before .got in
-    let read-step = c .before .before .before .before .before .before .before .read-step in
-    let steps = c .before .before .before .before .before .before .before .before .steps in
-    let args = c .before .before .before .before .before .before .before .before .before .before .args in
-    let on = step-on (args .bytes .now) (steps .at) (got .given .0 .1 .0) (got .given .0 .0) (sym (read-step .ensures) ∙ got .given .1) in
-    omega (arith, on)
+steps-less c = omega (arith, on (c .before .before .before .before .before))
 
 steps-again : tie.Need-steps-again Inv-steps μ-steps
 steps-again c =
-    let got = c .before .before .before .before .before .got in
-    let read-step = c .before .before .before .before .before .before .before .read-step in
-    let steps = c .before .before .before .before .before .before .before .before .steps in
-    let args = c .before .before .before .before .before .before .before .before .before .before .args in
-    let on = step-on (args .bytes .now) (steps .at) (got .given .0 .1 .0) (got .given .0 .0) (sym (read-step .ensures) ∙ got .given .1) in
-    (omega (arith, on, steps .inv), ⊎-elim (λ w. omega (arith, on, steps .inv, w)) (λ w. omega (arith, on, steps .inv, w)) (c .before .if1 .came))
+    let g = c .before .before .before .before .before in
+    let steps = g .before .before .before .steps in
+    (omega (arith, on g, steps .inv), ⊎-elim (λ w. omega (arith, on g, steps .inv, w)) (λ w. omega (arith, on g, steps .inv, w)) (c .before .if1 .came))
 
 returns : tie.Need-returns Inv-steps μ-steps
 returns c = search needs

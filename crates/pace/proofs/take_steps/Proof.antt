@@ -1,6 +1,6 @@
 use mathlib.Core.Bool.{true}
 use mathlib.Core.Path.{_≡_, sym, _∙_}
-use Prim.Native.Nat.{_+_, _-_, _≤_}
+use Prim.Native.Nat.{_+_, _-_, _≤_, _<_}
 use native.Mathlib.Omega.{arith}
 use lib.ListN.{length}
 use borrow.Author.Needs.{needs}
@@ -31,40 +31,30 @@ step-sound-requires c κs = c .before .before .before .before .steps .inv .0
 is-done-requires : tie.Need-is-done-requires Inv-steps μ-steps
 is-done-requires c κs = search needs
 
+-- a step read takes the offset on, within the bytes
+on : (g : tie.After-got Inv-steps μ-steps) → (g .before .before .before .steps .at < g .got .given .0 .1 .0) × (g .got .given .0 .1 .0 ≤ length (g .before .before .before .before .before .args .bytes .now))
+on g = step-on (g .before .before .before .before .before .args .bytes .now) (g .before .before .before .steps .at) (g .got .given .0 .1 .0) (g .got .given .0 .0) (sym (g .before .before .read-step .ensures) ∙ g .got .given .1)
+
 add-accepted : tie.Need-add-accepted Inv-steps μ-steps
-add-accepted c =
-    let got = c .before .before .before .before .before .got in
-    let steps = c .before .before .before .before .before .before .before .before .steps in
-    let on = step-on (c .before .before .before .before .before .before .before .before .before .before .args .bytes .now) (steps .at) (got .given .0 .1 .0) (got .given .0 .0) (sym (c .before .before .before .before .before .before .before .read-step .ensures) ∙ got .given .1) in
-    omega (arith, on, steps .inv .1)
+add-accepted c = let g = c .before .before .before .before .before in omega (arith, on g, g .before .before .before .steps .inv .1)
 
 steps-less : tie.Need-steps-less Inv-steps μ-steps
-steps-less c =
-    let got = c .before .before .before .before .before .got in
-    let steps = c .before .before .before .before .before .before .before .before .steps in
-    let on = step-on (c .before .before .before .before .before .before .before .before .before .before .args .bytes .now) (steps .at) (got .given .0 .1 .0) (got .given .0 .0) (sym (c .before .before .before .before .before .before .before .read-step .ensures) ∙ got .given .1) in
-    omega (arith, on)
+steps-less c = omega (arith, on (c .before .before .before .before .before))
 
 steps-again : tie.Need-steps-again Inv-steps μ-steps
 steps-again c =
-    let got = c .before .before .before .before .before .got in
-    let steps = c .before .before .before .before .before .before .before .before .steps in
-    let on = step-on (c .before .before .before .before .before .before .before .before .before .before .args .bytes .now) (steps .at) (got .given .0 .1 .0) (got .given .0 .0) (sym (c .before .before .before .before .before .before .before .read-step .ensures) ∙ got .given .1) in
-    (rw (c .before .before .before .step-sound .ensures) (sound-again (steps .t) (got .given .0 .0) (steps .inv .0)), omega (arith, on, steps .inv .1))
+    let g = c .before .before .before .before .before in
+    let steps = g .before .before .before .steps in
+    (rw (c .before .before .before .step-sound .ensures) (sound-again (steps .t) (g .got .given .0 .0) (steps .inv .0)), omega (arith, on g, steps .inv .1))
 
 steps-less-2 : tie.Need-steps-less-2 Inv-steps μ-steps
-steps-less-2 c =
-    let got = c .before .before .before .before .before .got in
-    let steps = c .before .before .before .before .before .before .before .before .steps in
-    let on = step-on (c .before .before .before .before .before .before .before .before .before .before .args .bytes .now) (steps .at) (got .given .0 .1 .0) (got .given .0 .0) (sym (c .before .before .before .before .before .before .before .read-step .ensures) ∙ got .given .1) in
-    omega (arith, on)
+steps-less-2 c = omega (arith, on (c .before .before .before .before .before))
 
 steps-again-2 : tie.Need-steps-again-2 Inv-steps μ-steps
 steps-again-2 c =
-    let got = c .before .before .before .before .before .got in
-    let steps = c .before .before .before .before .before .before .before .before .steps in
-    let on = step-on (c .before .before .before .before .before .before .before .before .before .before .args .bytes .now) (steps .at) (got .given .0 .1 .0) (got .given .0 .0) (sym (c .before .before .before .before .before .before .before .read-step .ensures) ∙ got .given .1) in
-    (rw (c .before .before .before .step-sound .ensures) (sound-again (steps .t) (got .given .0 .0) (steps .inv .0)), omega (arith, on, steps .inv .1))
+    let g = c .before .before .before .before .before in
+    let steps = g .before .before .before .steps in
+    (rw (c .before .before .before .step-sound .ensures) (sound-again (steps .t) (g .got .given .0 .0) (steps .inv .0)), omega (arith, on g, steps .inv .1))
 
 returns : tie.Need-returns Inv-steps μ-steps
 returns c = search needs
