@@ -1,7 +1,7 @@
 -- What is cut at 255 is within a limit exactly where it was.
 use mathlib.Core.Path.{_≡_, _∙_, ap, sym}
 use mathlib.Core.List.{List}
-use mathlib.Core.Bool.{Bool, false, _&&_}
+use mathlib.Core.Bool.{false}
 use Prim.Native.Nat.{ℕ, _≤_, _<_, min}
 use native.Mathlib.Omega.{arith}
 use lib.Dec.{T, leb, leb→le, le→leb}
@@ -10,6 +10,7 @@ use Rattle.lists.proofs.Tests.{and-l, and-r, same-test, both, by-test, F-false}
 use Rattle.model.specs.declared.Sizes.{Sizes}
 use Rattle.model.specs.Limits.{within, inLimits}
 use Rattle.model.specs.Record.{sizesOf}
+use Rattle.model.proofs.Limits.{limits}
 use Rattle.codes.specs.Capped.{capped}
 
 -- a limit below 255 tells a number from another no better than what is cut at 255
@@ -40,24 +41,19 @@ module _ (ns : List ℕ) where
       )
 
   sizes-same : T (inLimits (sizesOf ns)) → capped ns ≡ sizesOf ns
-  unfolding inLimits
   sizes-same t =
-      let w : ℕ → ℕ → Bool = λ most i. within most (getD ns i 0) in
-      let five = and-l (w 4 0 && w 4 1 && w 16 2 && w 8 3 && w 5 4) (w 8 5) t in
-      let four = and-l (w 4 0 && w 4 1 && w 16 2 && w 8 3) (w 5 4) five in
-      let three = and-l (w 4 0 && w 4 1 && w 16 2) (w 8 3) four in
-      let two = and-l (w 4 0 && w 4 1) (w 16 2) three in
+      let m = limits (sizesOf ns) t in
       rw (
-        cut 4 0 (omega arith) (and-l (w 4 0) (w 4 1) two),
-        cut 4 1 (omega arith) (and-r (w 4 0) (w 4 1) two),
-        cut 16 2 (omega arith) (and-r (w 4 0 && w 4 1) (w 16 2) three),
-        cut 8 3 (omega arith) (and-r (w 4 0 && w 4 1 && w 16 2) (w 8 3) four),
-        cut 5 4 (omega arith) (and-r (w 4 0 && w 4 1 && w 16 2 && w 8 3) (w 5 4) five),
-        cut 8 5 (omega arith) (and-r (w 4 0 && w 4 1 && w 16 2 && w 8 3 && w 5 4) (w 8 5) t),
+        cut 4 0 (omega arith) (m .sites-most),
+        cut 4 1 (omega arith) (m .words-most),
+        cut 16 2 (omega arith) (m .lines-most),
+        cut 8 3 (omega arith) (m .sets-most),
+        cut 5 4 (omega arith) (m .pend-most),
+        cut 8 5 (omega arith) (m .stall-most),
       )
     where
-      cut : (most i : ℕ) → most < 255 → T (within most (getD ns i 0)) → min (getD ns i 0) 255 ≡ getD ns i 0
-      cut most i l t = omega (arith, leb→le (getD ns i 0) most (and-r (leb 1 (getD ns i 0)) (leb (getD ns i 0) most) t))
+      cut : (most i : ℕ) → most < 255 → getD ns i 0 ≤ most → min (getD ns i 0) 255 ≡ getD ns i 0
+      cut most i l t = omega (arith, t)
 
   -- what tells sizes outside the limits no further does not tell sizes from what is cut
   pub cut-alike : {A : Type 0} (f : Sizes → A) (outside : A) → ((z : Sizes) → inLimits z ≡ false → f z ≡ outside) → f (capped ns) ≡ f (sizesOf ns)

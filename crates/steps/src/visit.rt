@@ -1,7 +1,6 @@
 // The steps that visit a site: issue, retry and take.
 ghost use mathlib.Core.Path.{_≡_};
 ghost use Prim.Native.Nat.{_≤_, _<_};
-ghost use Rattle.model.specs.declared.System.{System};
 ghost use Rattle.model.specs.Limits.{addresses};
 ghost use Rattle.model.specs.Handling.{placeOf, mustWait};
 ghost use Rattle.model.specs.Issue.{asWaiting};
@@ -12,7 +11,6 @@ use crate::handling::facts_of;
 use crate::handling::perform;
 use crate::handling::set_of;
 use crate::here::Here;
-use crate::here::Made;
 use crate::here::Visit;
 use crate::taking::take;
 use model::Action;
