@@ -15,6 +15,7 @@ use Rattle.model.specs.declared.Instruction.{Instruction}
 use Rattle.model.specs.declared.Step.{Step}
 use Rattle.model.specs.declared.Step.the-variants.{Issue, Retry, Send, ArriveMemory, Serve, SendBack, ArriveSite, Take}
 use Rattle.model.specs.Kinds.{reconcile}
+use Rattle.model.specs.Limits.{mayBeFresh}
 use Rattle.model.specs.Fresh.{blank}
 use Rattle.model.specs.Parts.{Site, siteAt, putSite, pastEntry, netAt, siteRest, sitePut, withOutgoing, withIncoming}
 use Rattle.model.specs.Issue.{kindOf, asWaiting}
@@ -22,7 +23,6 @@ use Rattle.model.specs.Handling.{performed}
 use Rattle.model.specs.Take.{taken}
 use Rattle.model.specs.Steps.{stalledAt, stallHead, unstalled, afterSend, afterArriveMemory, afterServe, afterSendBack, afterArriveSite, stepOf, stepped, isDone}
 use Rattle.promises.specs.Runs.{afterRun, accepted, issues, isMove, issuesTrip, issuesReconcile}
-use Rattle.promises.specs.Promises.{RunBound}
 use Rattle.promises.proofs.Sites.{put-site, put-sent, put-reached}
 use Rattle.promises.proofs.Sound.{Sound, ready-pends, pends-room}
 use Rattle.promises.proofs.Room.{ready, below-four}
@@ -171,5 +171,6 @@ most-moves s h xs t =
       none-issued (λ n. eqb (kindOf n) reconcile) s xs t,
     )
 
-pub run-bound : RunBound
+pub run-bound : (z : Sizes) → T (mayBeFresh z) → (xs : List Step) →
+    accepted isMove (blank z) xs ≤ 13 * accepted issuesTrip (blank z) xs + 7 * accepted issuesReconcile (blank z) xs
 run-bound z t xs = omega (arith, run-left (blank z) (fresh-sound z t) xs, fresh-none z)

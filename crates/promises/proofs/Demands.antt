@@ -1,9 +1,8 @@
 -- The proof of each promise of specs/Promises.antt.
 use mathlib.Core.Path.{_≡_, refl}
 use mathlib.Core.Bool.{Bool, true, false, not}
-use Prim.Native.Nat.{ℕ, _*_, min}
-use native.Mathlib.Omega.{arith}
-use lib.Dec.{T, leb, le→leb}
+use Prim.Native.Nat.{ℕ, _*_}
+use lib.Dec.{T}
 use lib.ListN.{length}
 use Rattle.lists.proofs.Tests.{by-test, T-true, F-false, cond-T, cond-F}
 use Rattle.lists.proofs.Counts.{count-same}
@@ -11,7 +10,7 @@ use Rattle.model.specs.declared.System.{System}
 use Rattle.model.specs.declared.After.{After}
 use Rattle.model.specs.declared.Step.{Step}
 use Rattle.model.specs.declared.Refusal.the-variants.{NotSound}
-use Rattle.model.specs.Limits.{inLimits, mostDrain}
+use Rattle.model.specs.Limits.{inLimits}
 use Rattle.model.specs.Fresh.{noSizes, blank, refused, freshOf}
 use Rattle.model.specs.Parts.{siteAt}
 use Rattle.model.specs.Sound.{request, reply, ofSite, messageFits, siteQueueFits, sound}
@@ -26,7 +25,7 @@ use Rattle.promises.proofs.Public.{stepped-sound, run-kept, run-sizes}
 use Rattle.promises.proofs.Kept.{kept, fresh-sound}
 use Rattle.promises.proofs.Bound.{run-bound, most-moves}
 use Rattle.promises.proofs.Quiet.{quiet-all, all-quiet, quiet-none}
-use Rattle.promises.proofs.Drain.{drained-always, drained-bytes}
+use Rattle.promises.proofs.Drain.{drained-always, room-always, drained-bytes}
 use Rattle.promises.proofs.Alternate.{alternates, all-answered}
 use Rattle.promises.proofs.Choices.{choices, accepted-candidate, candidates-once}
 use Rattle.promises.proofs.Readers.{sizes-faulty}
@@ -106,8 +105,7 @@ moves-most s t xs m = most-moves s (opened s t) xs m
 pub drain-quiet : DrainQuiet
 unfolding drainOf
 drain-quiet s t b l buf k =
-    rw (T-true (sound s) t, T-true (leb (2 * min b mostDrain) (length buf)) (le→leb (2 * min b mostDrain) (length buf) (omega arith)))
-    (T-true (quiet (drained b s .state)) (drained-always b s (opened s t) l))
+    rw (T-true (sound s) t, room-always b (length buf) k) (T-true (quiet (drained b s .state)) (drained-always b s (opened s t) l))
 
 pub drain-fits : DrainFits
 drain-fits s t b = drained-bytes b s (opened s t)

@@ -6,6 +6,7 @@ use Prim.Native.Nat.{ℕ, zero, suc, _+_, _*_, _≤_, _<_, min}
 use native.Mathlib.Omega.{arith}
 use lib.Dec.{T, leb, ltb, ltb→lt, lt→ltb, le→leb}
 use lib.ListN.{length, length-append}
+use borrow.Author.Tests.{le-leb}
 use Rattle.lists.specs.Places.{each}
 use Rattle.lists.proofs.Tests.{and-l, and-r, both, by-cond, ind-T, T-true, F-false, not-T, T-not}
 use Rattle.lists.proofs.Counts.{each-map}
@@ -207,6 +208,10 @@ drained-potential b s h = drains-potential b s (drained b s) h (drains b s h)
 -- a budget of 656 always suffices
 pub drained-always : (b : ℕ) (s : System) → Sound s → mostDrain ≤ b → T (quiet (drained b s .state))
 drained-always b s h l = drained-quiet b s h (omega (arith, l, potential-most s h))
+
+-- twice 656 bytes are room enough, whatever the budget
+pub room-always : (b room : ℕ) → 2 * mostDrain ≤ room → leb (2 * min b mostDrain) room ≡ true
+room-always b room k = le-leb (2 * min b mostDrain) room (omega arith)
 
 -- its bytes fit the buffer that it asks for
 pub drained-bytes : (b : ℕ) (s : System) → Sound s → length (stepsBytes (drained b s .steps)) ≤ 2 * min b mostDrain

@@ -1,11 +1,11 @@
 -- What a drain wrote is read back as the steps that it took, and all else in the buffer stays.
-use mathlib.Core.Path.{refl}
+use mathlib.Core.Path.{_≡_, refl}
 use mathlib.Core.List.{List}
 use Prim.Native.Nat.{ℕ, _*_, _≤_, min}
 use native.Mathlib.Omega.{arith}
 use lib.Dec.{leb}
-use lib.ListN.{length}
-use lib.Seq.{length-sets, sets-eq, take-append-seam}
+use lib.ListN.{length, getD}
+use lib.Seq.{sets, length-sets, sets-eq, take-append-seam}
 use borrow.Author.Tests.{le-leb}
 use Rattle.lists.proofs.Tests.{by-cond, T-true}
 use Rattle.model.specs.declared.System.{System}
@@ -48,11 +48,14 @@ drained-read s t b buf k = rw (T-true (sound s) t, le-leb (2 * min b mostDrain) 
 refusal-kept : (s : System) (buf : List ℕ) (r : Refusal) → DrainKept s buf (drainGives (undrained r s) buf)
 refusal-kept s buf r = record { length-kept = refl; refused-kept = λ q e. (refl, refl); others-kept = λ i l. refl }
 
+past-kept : (new buf : List ℕ) (i : ℕ) → length new ≤ i → getD (sets buf 0 new) i 0 ≡ getD buf i 0
+past-kept new buf i l = sets-kept new buf 0 i (λ k. omega arith)
+
 into-kept : (s : System) (d : Taken) (buf : List ℕ) → DrainKept s buf (drainedWith d buf)
 into-kept s d buf = record {
   length-kept = length-sets buf 0 (stepsBytes (d .steps));
   refused-kept = λ r e. (cc, cc);
-  others-kept = λ i l. sets-kept (stepsBytes (d .steps)) buf 0 i (λ k. omega arith);
+  others-kept = past-kept (stepsBytes (d .steps)) buf;
 }
 
 pub drained-kept : DrainKeeps

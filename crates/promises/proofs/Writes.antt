@@ -7,7 +7,7 @@ use Prim.Native.Nat.{ℕ, zero, suc, _+_, _/_, _%_, _≤_, _<_}
 use native.Mathlib.Nat.{zero-add, add-assoc}
 use native.Mathlib.Omega.{arith}
 use lib.Dec.{T, leb, ltb, lt→ltb, ltb→lt}
-use lib.ListN.{length, set, getD, length-append}
+use lib.ListN.{length, set, drop, getD, length-append}
 use lib.Seq.{sets, length-sets, sets-eq, getD-set-other}
 use borrow.Author.Tests.{le-leb}
 use Rattle.lists.specs.Places.{each}
@@ -15,6 +15,7 @@ use Rattle.lists.proofs.Tests.{by-cond, T-true, both}
 use Rattle.lists.proofs.Counts.{each-append}
 use Rattle.lists.proofs.Stores.{sets-append}
 use Rattle.numbers.specs.Groups.{bytes, encoded, mostGroups, bytesOf}
+use Rattle.model.specs.declared.Sizes.{Sizes}
 use Rattle.model.specs.declared.Step.{Step}
 use Rattle.model.specs.declared.Refusal.{Refusal}
 use Rattle.model.specs.declared.Refusal.the-variants.{BufferShort, SizeOutside, RecordLong}
@@ -22,8 +23,8 @@ use Rattle.model.specs.declared.Wrote.the-variants.{Past, NotWritten}
 use Rattle.model.specs.Given.{mostBytes}
 use Rattle.model.specs.Limits.{inLimits}
 use Rattle.model.specs.Record.{bytesOfAll, sixOf, numbersOf, sizesBytes, stepBytes, stepsBytes, recordOf, written, writtenTo, writtenAt, writeSizes, writeStep}
-use Rattle.promises.specs.Reading.{writeSteps}
-use Rattle.promises.specs.Promises.{RecordBytes, RecordWritten, Kept, WriteKeeps}
+use Rattle.promises.specs.Reading.{writeSteps, writeRecord}
+use Rattle.promises.specs.Promises.{RecordBytes, Kept, WriteKeeps}
 
 -- BYTES
 
@@ -66,7 +67,8 @@ steps-written (x ∷ xs) new buf at m l =
     rw (written-at new buf at (omega arith) (omega arith), n, ← add-assoc, sets-append new more)
     (steps-written xs (stepBytes x) (sets buf at new) (at + length new) (omega arith) (omega (arith, length-sets buf at new)))
 
-pub record-put : RecordWritten
+pub record-put : (z : Sizes) (xs : List Step) (buf : List ℕ) → T (inLimits z) → length (recordOf z xs) ≤ mostBytes → length (recordOf z xs) ≤ length buf →
+    writeRecord z xs buf ≡ written (Past (length (recordOf z xs))) (recordOf z xs ++ drop (length (recordOf z xs)) buf)
 unfolding writeSizes
 record-put z xs buf t m l =
     rw (T-true (inLimits z) t, steps-written xs (sizesBytes z) buf 0 (omega arith) (omega arith), sets-eq (recordOf z xs) buf 0 (omega arith), zero-add)
