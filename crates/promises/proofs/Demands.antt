@@ -1,6 +1,6 @@
 -- The proof of each promise of specs/Promises.antt.
 use mathlib.Core.Path.{_≡_, refl}
-use mathlib.Core.Bool.{Bool, true, false, not}
+use mathlib.Core.Bool.{false, not, Bool·not-not}
 use Prim.Native.Nat.{ℕ, _*_}
 use lib.Dec.{T}
 use lib.ListN.{length}
@@ -16,7 +16,8 @@ use Rattle.model.specs.Parts.{siteAt}
 use Rattle.model.specs.Sound.{request, reply, ofSite, messageFits, siteQueueFits, sound}
 use Rattle.model.specs.Steps.{stepOf, stepped, isDone}
 use Rattle.model.specs.Drain.{accepts, candidatesOf, quiet, drained, drainOf}
-use Rattle.promises.specs.Promises.{refuses, run, FreshSound, StepSound, RunSound, RefusedStays, RunBound, QuietMeans, QuietEmpty, Alternating, AllAnswered, MovesMost, DrainQuiet, DrainFits, DrainRead, DrainKeeps, ChoicesMost, Roomy, RunRoomy, RecordBytes, RecordRead, RecordOnly, ReadOnce, ReadOn, ReadAnswered, SizesFault, ReadFault, RecordWritten, WriteKeeps, ListingWhole}
+use Rattle.promises.specs.Promises.{refuses, run, FreshSound, StepSound, RunSound, RefusedStays, DoneGiven, RefusalGiven, RunBound, QuietMeans, QuietEmpty, Alternating, AllAnswered, MovesMost, DrainQuiet, DrainFits, DrainRead, DrainKeeps, ChoicesMost, Roomy, RunRoomy, RecordBytes, RecordRead, RecordOnly, ReadOnce, ReadOn, ReadAnswered, SizesFault, ReadFault, RecordWritten, WriteKeeps, ListingWhole}
+use Rattle.promises.proofs.Given.{done-by-number, refusal-unanswered}
 use Rattle.promises.proofs.Queues.{queue-most}
 use Rattle.promises.proofs.Sound.{Sound, opened, closed}
 use Rattle.promises.proofs.Room.{the-limits, ready, net-places}
@@ -35,6 +36,18 @@ use Rattle.promises.proofs.Endings.{step-on, all-read, same-reading, fa
 use Rattle.promises.proofs.Listed.{whole-listing}
 use Rattle.promises.proofs.Writes.{all-bytes, record-put, writes-keep}
 use Rattle.promises.proofs.Drained.{drained-read, drained-kept}
+
+-- GIVEN BACK
+
+pub done-given : DoneGiven
+done-given = done-by-number
+
+pub refusal-given : RefusalGiven
+refusal-given = refusal-unanswered
+
+-- refused, where the step is that of a sound state
+refuses-is : (s : System) → Sound s → (x : Step) → refuses s x ≡ not (accepts s x)
+refuses-is s h x = rw (stepped-sound s h x, done-by-number (stepOf s x .outcome))
 
 -- SOUND
 
@@ -69,12 +82,16 @@ stays s x r (returning l) t = absurd t
 stays s x r (reaching p l) t = absurd t
 stays s x r (tooking i l k) t = absurd t
 
-pub refused-stays : RefusedStays
+-- and so from any state
+all-stay : (s : System) (x : Step) → T (not (isDone (stepped s x .outcome))) → stepped s x .system ≡ s
 unfolding stepped
-refused-stays s x =
+all-stay s x =
     by-test (sound s)
     (λ u. rw (cond-T (sound s) (stepOf s x) (refused NotSound s) u) (stays s x (stepOf s x) (stepping s (opened s u) x)))
     (λ u. rw (cond-F (sound s) (stepOf s x) (refused NotSound s) u) (λ t. refl))
+
+pub refused-stays : RefusedStays
+refused-stays s x t = all-stay s x (rw (← done-by-number (stepped s x .outcome)) at t)
 
 -- THE BOUND
 
@@ -86,7 +103,7 @@ run-bounded = run-bound
 pub quiet-means : QuietMeans
 quiet-means s t =
     let h : Sound s = opened s t in
-    (λ q x m. rw (stepped-sound s h x) (quiet-all s h q x m), λ f. all-quiet s h (λ x m. rw (stepped-sound s h x) at (f x m)))
+    (λ q x m. rw (refuses-is s h x) (quiet-all s h q x m), λ f. all-quiet s h (λ x m. rw (refuses-is s h x) at (f x m)))
 
 pub quiet-empty : QuietEmpty
 quiet-empty s t q = quiet-none s (opened s t) q
@@ -120,11 +137,7 @@ drain-keeps = drained-kept
 
 -- what a sound state does not refuse it accepts
 accepts-is : (s : System) → Sound s → (x : Step) → not (refuses s x) ≡ accepts s x
-accepts-is s h x = rw (stepped-sound s h x) (twice (accepts s x))
-  where
-    twice : (b : Bool) → not (not b) ≡ b
-    twice true = refl
-    twice false = refl
+accepts-is s h x = rw (refuses-is s h x, Bool·not-not)
 
 pub choices-most : ChoicesMost
 choices-most s t =

@@ -31,4 +31,5 @@ pub mod Endings
 pub mod Writes
 pub mod Listed
 pub mod Drained
+pub mod Given
 pub mod Demands

@@ -1,10 +1,14 @@
--- What is promised: demands 1 to 3 of document 01 over the definitions. Each statement's proof stands in proofs/Demands.antt.
+-- What is promised: the three demands of document 01 over the definitions. Each statement's proof stands in proofs/Demands.antt.
+-- 1. Every operation ends with an answer; what is refused is refused by number, and then nothing changes.
+-- 2. Each step gives the state and the answer of the rules, and every list of steps has exactly one record.
+-- 3. At most 13k + 7r steps are accepted; quiet means that no message is left and that each accepted instruction has been answered exactly once,
+--    at its site and under its tag.
 use mathlib.Core.Path.{_≡_}
 use mathlib.Core.Logic.{_↔_, _⊎_}
 use mathlib.Core.List.{List, [], _++_, List·Memᴰ}
-use mathlib.Core.Bool.{Bool, true, not}
+use mathlib.Core.Bool.{Bool, true, not, cond}
 use Prim.Native.Nat.{ℕ, _+_, _*_, _≤_, _<_, min}
-use lib.Dec.{T}
+use lib.Dec.{T, eqb}
 use lib.ListN.{length, take, drop, getD}
 use Rattle.lists.specs.Places.{count, each}
 use Rattle.numbers.specs.Groups.{bytes}
@@ -13,6 +17,8 @@ use Rattle.model.specs.declared.System.{System}
 use Rattle.model.specs.declared.Step.{Step}
 use Rattle.model.specs.declared.Refusal.{Refusal}
 use Rattle.model.specs.declared.Refusal.the-variants.{NoRecord, SizeOutside, RecordLong}
+use Rattle.model.specs.declared.Answer.the-variants.{Nothing}
+use Rattle.model.specs.declared.Outcome.{Outcome}
 use Rattle.model.specs.declared.Outcome.the-variants.{Refused}
 use Rattle.model.specs.declared.ReadSizes.the-variants.{Sized, NoSizes}
 use Rattle.model.specs.declared.ReadStep.the-variants.{One}
@@ -21,17 +27,37 @@ use Rattle.model.specs.Limits.{inLimits, mayBeFresh, mostDrain}
 use Rattle.model.specs.Fresh.{freshOf, blank}
 use Rattle.model.specs.Parts.{siteAt}
 use Rattle.model.specs.Sound.{sound, underWay}
-use Rattle.model.specs.Steps.{stepped, isDone}
-use Rattle.model.specs.Given.{mostBytes}
+use Rattle.model.specs.Steps.{stepped, isDone, answerOf}
+use Rattle.model.specs.Given.{mostBytes, given}
 use Rattle.model.specs.Record.{stepsBytes, recordOf, readSizes, readStep, Written, written, writeSizes, writeStep}
 use Rattle.model.specs.Replay.{sizesLine, listing}
 use Rattle.model.specs.Drain.{candidatesOf, quiet, drained, Drain, drainOf}
 use Rattle.promises.specs.Reading.{recordable, Ending, whole, broken, Reading, ReadsAs, Read, linesOf, writeRecord}
 use Rattle.promises.specs.Runs.{afterRun, accepted, isMove, issuesTrip, issuesReconcile, sameMove, events, free, alternate, isIssued, isAnswered}
 
--- a step that the state refuses
+-- GIVEN BACK
+
+-- An outcome is done exactly where the number given back is 0.
+abbrev pub DoneGiven : Type 0
+DoneGiven = (o : Outcome) → isDone o ≡ eqb (given o .number) 0
+
+-- no processor answer, and the other numbers 0, but that 10 has its place and 13 has place 65,536
+pub record Unanswered (o : Outcome) : Type 0 where
+  pub answer : answerOf o ≡ Nothing
+  pub answered : given o .answered ≡ 0
+  pub site : given o .site ≡ 0
+  pub tag : given o .tag ≡ 0
+  pub value : given o .value ≡ 0
+  pub ten : (place : ℕ) → o ≡ Refused (NoRecord place) → given o .place ≡ place
+  pub others : (given o .number ≡ 10) ⊎ (given o .place ≡ cond (eqb (given o .number) 13) mostBytes 0)
+
+-- A number other than 0 has no answer with it.
+abbrev pub RefusalGiven : Type 0
+RefusalGiven = (o : Outcome) → T (not (eqb (given o .number) 0)) → Unanswered o
+
+-- a step that the state refuses: the number given back is not 0
 abbrev pub refuses : System → Step → Bool
-refuses s x = not (isDone (stepped s x .outcome))
+refuses s x = not (eqb (given (stepped s x .outcome) .number) 0)
 
 -- a fresh system of sizes z, which is what `freshOf z` gives where it does not refuse them, after the steps
 abbrev pub run : Sizes → List Step → System
@@ -148,7 +174,7 @@ pub record Roomy (s : System) : Type 0 where
   pub five : s .sizes .pend ≤ 5
   pub twenty : s .sizes .pend * s .sizes .sites ≤ 20
 
--- The size of every queue stays within its room.
+-- The size of every queue stays within its room. None is ever full: a message that is put has a place, since the state behind that step is roomy too.
 abbrev pub RunRoomy : Type 0
 RunRoomy = (z : Sizes) → T (mayBeFresh z) → (xs : List Step) → Roomy (run z xs)
 
