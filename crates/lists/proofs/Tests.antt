@@ -1,7 +1,7 @@
 -- Tests and what follows from them: T b says that the test b passes.
 use mathlib.Core.Path.{_≡_, refl, sym}
 use mathlib.Core.Bool.{Bool, true, false, not, _&&_, _||_, cond}
-use Prim.Native.Nat.{ℕ, zero, suc, _≤_, _<_}
+use Prim.Native.Nat.{ℕ, _≤_, _<_}
 use native.Mathlib.Omega.{arith}
 use lib.Dec.{T, eqb, eqb→eq, eqb-refl}
 use Rattle.lists.specs.Places.{ind}
@@ -90,10 +90,6 @@ ne-of a b t e = T-not (eqb a b) t (rw e (eqb-refl b))
 
 pub of-ne : (a b : ℕ) → (a ≡ b → ⊥) → T (not (eqb a b))
 of-ne a b h = not-T (eqb a b) (λ t. h (eqb→eq a b t))
-
-pub positive : (n : ℕ) → T (not (eqb n 0)) → 0 < n
-positive zero t = absurd t
-positive (suc n) t = omega arith
 
 -- a test counted
 pub ind-T : (b : Bool) → T b → ind b ≡ 1

@@ -1,12 +1,12 @@
 -- Along a run, under each tag of each site, issues and answers alternate, an issue first; and each accepted instruction is answered or outstanding.
 use mathlib.Core.Path.{_≡_, refl, ap}
 use mathlib.Core.List.{List, [], _∷_, _++_}
-use mathlib.Core.Bool.{Bool, true, false, _&&_, cond, Bool·beq}
-use Prim.Native.Nat.{ℕ, _+_, _≤_}
+use mathlib.Core.Bool.{Bool, true, false, _&&_, Bool·beq}
+use Prim.Native.Nat.{ℕ, _+_}
 use native.Mathlib.Omega.{arith}
-use lib.Dec.{T, eqb, eqb→eq}
+use lib.Dec.{T}
 use Rattle.lists.specs.Places.{ind, count}
-use Rattle.lists.proofs.Tests.{both, by-cond, some-T, positive}
+use Rattle.lists.proofs.Tests.{both, some-T}
 use Rattle.lists.proofs.Counts.{count-append, count-both}
 use Rattle.model.specs.declared.Sizes.{Sizes}
 use Rattle.model.specs.declared.System.{System}
@@ -23,7 +23,7 @@ use Rattle.promises.proofs.Stepping.{stepping}
 use Rattle.promises.proofs.Kept.{kept, fresh-sound, blank-site}
 use Rattle.promises.proofs.Quiet.{Idle, quiet-idle}
 use Rattle.promises.proofs.Public.{stepped-sound, run-kept}
-use Rattle.promises.proofs.Answers.{outstanding, left, formOf, by-forms, issuesAs, answersAs, issueIn, answerIn, step-once, one-out, none-left, Issuing, no-issue, one-issue, issuing, Answering, no-answer, one-answer, answering}
+use Rattle.promises.proofs.Answers.{outstanding, left, formOf, by-forms, issuesAs, answersAs, issueIn, answerIn, step-once, none-left, Issuing, no-issue, one-issue, issuing, Answering, no-answer, one-answer, answering}
 
 -- TURNS
 
@@ -34,25 +34,6 @@ held (due b) c = ind (Bool·beq b c)
 
 abbrev Fits : Turn → (Bool → ℕ) → Type 0
 Fits u n = (c : Bool) → n c ≡ held u c
-
--- free if nothing is outstanding, due b if one of form b is
-abbrev turnBy : (Bool → ℕ) → Turn
-turnBy n = cond (eqb (n true) 0) (cond (eqb (n false) 0) free (due false)) (due true)
-
-abbrev pub turnOf : ℕ → ℕ → System → Turn
-turnOf i t s = turnBy (λ c. outstanding i t c s)
-
-by-form : (P : Bool → Type 0) → P true → P false → (c : Bool) → P c
-by-form P p q true = p
-by-form P p q false = q
-
-turn-fits : (n : Bool → ℕ) → n true + n false ≤ 1 → Fits (turnBy n) n
-turn-fits n l =
-    by-cond (λ u. Fits u n) (eqb (n true) 0) _ _
-    (λ u. by-cond (λ v. Fits v n) (eqb (n false) 0) _ _
-    (λ v. by-form (λ c. n c ≡ 0) (eqb→eq (n true) 0 u) (eqb→eq (n false) 0 v))
-    (λ v. by-form (λ c. n c ≡ ind (Bool·beq false c)) (eqb→eq (n true) 0 u) (omega (arith, l, positive (n false) v))))
-    (λ u. by-form (λ c. n c ≡ ind (Bool·beq true c)) (omega (arith, l, positive (n true) u)) (omega (arith, l, positive (n true) u)))
 
 same-form : (b : Bool) → ind (Bool·beq b b) ≡ 1
 same-form true = refl
@@ -136,10 +117,6 @@ module _ (i t : ℕ) where
         step-once i t b s h x,
         run-once b (r .system) (kept s h x) xs,
       ))
-
--- From any sound state issues and answers alternate, the answer first if an instruction is outstanding.
-pub alternates-from : (s : System) → Sound s → (xs : List Step) (i t : ℕ) → T (alternate (turnOf i t s) (events i t s xs))
-alternates-from s h xs i t = alternate-by i t s h (turnOf i t s) (turn-fits (λ c. outstanding i t c s) (one-out s h i t)) xs
 
 -- Each accepted instruction is answered, or outstanding still.
 pub accounted : (s : System) → Sound s → (xs : List Step) (i t : ℕ) →

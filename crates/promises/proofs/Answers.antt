@@ -1,15 +1,14 @@
 -- What is outstanding at a site under a tag. A step answers what it takes away from that, and adds what it accepts.
-use mathlib.Core.Path.{_≡_, refl, ap, sym, subst}
+use mathlib.Core.Path.{_≡_, refl, ap, sym}
 use mathlib.Core.List.{List, [], _∷_}
 use mathlib.Core.Bool.{Bool, true, false, not, _&&_, cond, Bool·beq}
 use Prim.Native.Nat.{ℕ, _+_, _≤_, _<_}
 use native.Mathlib.Omega.{arith}
-use lib.Dec.{T, ltb, eqb, ltb→lt, nltb→le, eqb→eq, eqb-refl}
+use lib.Dec.{T, ltb, eqb, ltb→lt, nltb→le, eqb→eq}
 use lib.ListN.{length, getD, List·getD-eq-default}
-use Rattle.lists.specs.Places.{ind, weigh, tally, noneOf, firstAt, count}
-use Rattle.lists.proofs.Tests.{and-l, and-r, both, by-test, by-cond, T-true, F-false, not-T, T-not, ne-of, of-ne, positive, ind-F}
-use Rattle.lists.proofs.Places.{weigh-push, weigh-pull, weigh-set, weigh-none, weigh-both, fits-at, first-below, first-passes, array-at}
-use Rattle.lists.proofs.Unlike.{unlike-most}
+use Rattle.lists.specs.Places.{ind, weigh, tally, noneOf, count}
+use Rattle.lists.proofs.Tests.{and-l, and-r, by-test, by-cond, T-true, F-false, not-T, T-not, ne-of, of-ne, ind-F}
+use Rattle.lists.proofs.Places.{weigh-push, weigh-pull, weigh-set, weigh-none, array-at}
 use Rattle.model.specs.declared.Sizes.{Sizes}
 use Rattle.model.specs.declared.Message.{Message}
 use Rattle.model.specs.declared.Entry.{Entry}
@@ -30,14 +29,14 @@ use Rattle.model.specs.declared.Answer.the-variants.{Nothing, Loaded, Acknowled
 use Rattle.model.specs.Kinds.{loadl, voluntary}
 use Rattle.model.specs.Fresh.{noEntry, noWaiting}
 use Rattle.model.specs.Parts.{Site, siteAt, putSite, pastEntry, pastWaiting, pastPends, pastStalls, netAt, withCache, withOutgoing, withIncoming, siteRest}
-use Rattle.model.specs.Sound.{waitsUnder, pendsUnder, sameTag, samePendTag, freeEntry, entryFits}
+use Rattle.model.specs.Sound.{waitsUnder, pendsUnder, freeEntry, entryFits}
 use Rattle.model.specs.Issue.{kindOf, asWaiting, tagFree}
 use Rattle.model.specs.Handling.{Handled, entryOf, asked, putSet, performed, mustWait}
 use Rattle.model.specs.Take.{removedEntry, caching, taken, voluntaryEntry}
 use Rattle.model.specs.Steps.{stalledAt, stallHead, unstalled, stepOf, isDone, answerOf, afterSend, afterArriveMemory, afterServe, afterSendBack, afterArriveSite}
 use Rattle.promises.specs.Runs.{Event, issued, answered, here, issueSeen, answerSeen, isIssued, isAnswered}
 use Rattle.promises.proofs.Sites.{Put, put-site, put-sent, put-reached}
-use Rattle.promises.proofs.Sound.{Sound, Own, ready-pends, ready-stalls, pends-room, stalls-room}
+use Rattle.promises.proofs.Sound.{Sound, ready-pends, ready-stalls, pends-room, stalls-room}
 use Rattle.promises.proofs.Room.{ready, below-four, vacant}
 use Rattle.promises.proofs.Moves.{reached-site}
 use Rattle.promises.proofs.Took.{entry-below}
@@ -340,7 +339,7 @@ module _ (i t : ℕ) (b : Bool) where
     pub step-once : (x : Step) → Once s x (stepOf s x)
     step-once x = once x (stepOf s x) (stepping s h x)
 
--- THE TAGS OUTSTANDING AT A SITE DIFFER
+-- WHERE NOTHING IS OUTSTANDING
 
 -- of one form or of the other
 pub by-forms : (a c : Bool) → ind a ≡ ind (a && Bool·beq c true) + ind (a && Bool·beq c false)
@@ -370,53 +369,6 @@ module _ (t : ℕ) where
         none-out (pendsUnder t) (pendsAs t b) (x .pends) (x .entries) w (λ e. and-l (pendsUnder t e) _),
       )
 
-  -- two tags that are t are alike
-  alike : (m n : ℕ) → T (eqb m t) → T (eqb n t) → T (eqb m n)
-  alike m n u v =
-      let e : m ≡ t = eqb→eq m t u in
-      let q : n ≡ t = eqb→eq n t v in
-      rw (e, q) (eqb-refl t)
-
-  module _ (z : Sizes) (x : Site) (o : Own z (x .cache) (x .pends) (x .entries) (x .stalls) (x .waiting)) where
-    waits-once : tally (waitsUnder t) (x .stalls) (x .waiting) ≤ 1
-    waits-once = unlike-most sameTag (waitsUnder t) (λ v w. alike (v .tag) (w .tag)) (x .stalls) (x .waiting) (o .w-tags)
-
-    pends-once : tally (pendsUnder t) (x .pends) (x .entries) ≤ 1
-    pends-once = unlike-most samePendTag (pendsUnder t) same (x .pends) (x .entries) (o .e-tags)
-      where
-        same : (d e : Entry) → T (pendsUnder t d) → T (pendsUnder t e) → T (samePendTag d e)
-        same d e u v =
-            both (not (eqb (d .kind) voluntary)) _ (and-l (not (eqb (d .kind) voluntary)) _ u)
-            (both (not (eqb (e .kind) voluntary)) _ (and-l (not (eqb (e .kind) voluntary)) _ v)
-            (alike (e .tag) (d .tag) (and-r (not (eqb (e .kind) voluntary)) _ v) (and-r (not (eqb (d .kind) voluntary)) _ u)))
-
-    -- what waits under the tag does not pend under it
-    not-both : 0 < tally (waitsUnder t) (x .stalls) (x .waiting) → tally (pendsUnder t) (x .pends) (x .entries) ≡ 0
-    not-both k =
-        let p : ℕ = firstAt (waitsUnder t) (x .stalls) (x .waiting) in
-        let w : Waiting = getD (x .waiting) p pastWaiting in
-        let e : w .tag ≡ t = eqb→eq (w .tag) t (first-passes (waitsUnder t) (x .stalls) (x .waiting) pastWaiting k) in
-        let u : T (noneOf (pendsUnder (w .tag)) (x .pends) (x .entries)) =
-        fits-at (λ w. noneOf (pendsUnder (w .tag)) (x .pends) (x .entries)) (λ w. true) (x .stalls) (x .waiting) p pastWaiting (o .apart)
-        (first-below (waitsUnder t) (x .stalls) (x .waiting) k) in
-        none-out (pendsUnder t) (pendsUnder t) (x .pends) (x .entries) (subst (λ (n : ℕ). T (noneOf (pendsUnder n) (x .pends) (x .entries))) e u) (λ e v. v)
-
-    -- at most one is outstanding
-    one-at : outAt t true x + outAt t false x ≤ 1
-    unfolding outAt
-    one-at =
-        let m : ℕ = tally (waitsUnder t) (x .stalls) (x .waiting) in
-        let n : ℕ = tally (pendsUnder t) (x .pends) (x .entries) in
-        let e : m + n ≤ 1 = by-test (eqb m 0) (λ u. omega (arith, eqb→eq m 0 u, pends-once)) (λ u. omega (arith, waits-once, not-both (positive m u))) in
-        omega (
-          arith,
-          e,
-          weigh-both (λ w. ind (waitsUnder t w)) (λ w. ind (waitsAs t true w)) (λ w. ind (waitsAs t false w))
-              (λ w. by-forms (waitsUnder t w) (eqb (w .kind) loadl)) (x .stalls) (x .waiting),
-          weigh-both (λ e. ind (pendsUnder t e)) (λ e. ind (pendsAs t true e)) (λ e. ind (pendsAs t false e))
-              (λ e. by-forms (pendsUnder t e) (eqb (e .kind) loadl)) (x .pends) (x .entries),
-        )
-
 -- OF A SOUND STATE
 
 module _ (s : System) (h : Sound s) (i t : ℕ) where
@@ -429,13 +381,6 @@ module _ (s : System) (h : Sound s) (i t : ℕ) where
       (λ u. let m : 4 ≤ i = nltb→le i 4 u in
       empty-out t b (siteAt s i) (ap (λ (x : Stalls). x .count) (List·getD-eq-default (s .stalls) pastStalls (omega (arith, m, h .four .stalls))))
       (ap (λ (x : Pends). x .count) (List·getD-eq-default (s .pends) pastPends (omega (arith, m, h .four .pends)))))
-
-  -- at most one instruction is outstanding at a site under a tag
-  pub one-out : left i t s ≤ 1
-  unfolding outstanding
-  one-out =
-      by-test (ltb i (s .sizes .sites)) (λ u. one-at t (s .sizes) (siteAt s i) (ready s h i (ltb→lt i (s .sizes .sites) u) .own))
-      (λ u. omega (arith, past-out (nltb→le i (s .sizes .sites) u) true, past-out (nltb→le i (s .sizes .sites) u) false))
 
   -- where the sites are idle nothing is outstanding
   pub none-left : Idle s → (b : Bool) → outstanding i t b s ≡ 0

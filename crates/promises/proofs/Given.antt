@@ -2,14 +2,13 @@
 use mathlib.Core.Path.{_≡_, refl}
 use mathlib.Core.Logic.{_⊎_, inl, inr}
 use mathlib.Core.Bool.{cond}
-use Prim.Native.Nat.{ℕ}
-use lib.Dec.{T, eqb}
+use lib.Dec.{eqb}
 use Rattle.model.specs.declared.Answer.the-variants.{Nothing, Loaded, Acknowledged}
 use Rattle.model.specs.declared.Refusal.{Refusal}
 use Rattle.model.specs.declared.Refusal.the-variants.{NotSound, NoSuchSite, AddressPastLast, TagOutstanding, MayNotIssue, StallFull, NothingThere, MustStillWait, NoRecord, BufferShort, SizeOutside, RecordLong}
 use Rattle.model.specs.declared.Outcome.the-variants.{Done, Refused}
 use Rattle.model.specs.Given.{mostBytes, numberOf, placeGiven, answerGiven, refusalGiven, given}
-use Rattle.promises.specs.Promises.{DoneGiven, Unanswered, RefusalGiven}
+use Rattle.promises.specs.Promises.{DoneGiven, RefusalGiven}
 
 -- 10 has its place, 13 has place 65,536, the others 0
 other-places : (r : Refusal) → (numberOf r ≡ 10) ⊎ (placeGiven r ≡ cond (eqb (numberOf r) 13) mostBytes 0)

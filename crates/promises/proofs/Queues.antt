@@ -114,7 +114,3 @@ module _ (z : Sizes) (side : ℕ → Bool) (i : ℕ) (q : SiteQueue) (t : T (sit
   pub own-loses : (f : Message → Bool) → 0 < q .count → tally f (siteRest q .count) (siteRest q .items) + ind (f (siteHead q)) ≡ tally f (q .count) (q .items)
   unfolding siteQueueFits
   own-loses f h = queue-pulled 5 (z .pend) (ofSite z side i) (q .count) (q .items) t f 0 h
-
-  pub own-fits : T (fits (ofSite z side i) freeMessage (q .count) (q .items))
-  unfolding siteQueueFits
-  own-fits = queue-fits 5 (z .pend) (ofSite z side i) (q .count) (q .items) t

@@ -9,7 +9,7 @@ use Rattle.model.specs.declared.Sizes.{Sizes}
 use Rattle.model.specs.declared.Place.{Place}
 use Rattle.model.specs.declared.CacheSet.{CacheSet}
 use Rattle.model.specs.Fresh.{noSet}
-use Rattle.model.specs.Sets.{wordsFit, marksFit, holds, freePlace, setNumber, placeFits, setFits, freeSet, seat, has, displaced, placed, without, anew}
+use Rattle.model.specs.Sets.{wordsFit, marksFit, holds, freePlace, setNumber, placeFits, setFits, seat, has, displaced, placed, without, anew}
 
 -- what a used place holds
 pub record Full (z : Sizes) (k : ℕ) (p : Place) : Type 0 where
@@ -32,10 +32,6 @@ full-close z k p u f =
 pub none-fits : (z : Sizes) (k : ℕ) → T (setFits z k noSet)
 unfolding setFits placeFits freePlace wordsFit marksFit array fits
 none-fits z k = tt
-
-pub none-free : T (freeSet noSet)
-unfolding freeSet freePlace wordsFit marksFit array fits
-none-free = tt
 
 module _ (z : Sizes) (k : ℕ) (t : CacheSet) (s : T (setFits z k t)) where
   pub seat-fits : (L : ℕ) → T (placeFits z k (seat t L))
