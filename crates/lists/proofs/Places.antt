@@ -29,13 +29,6 @@ module _ {A : Type 0} where
   fits-at f g (suc n) (x ∷ xs) zero d t h = and-l (f x) _ t
   fits-at f g (suc n) (x ∷ xs) (suc p) d t h = fits-at f g n xs p d (and-r (f x) _ t) (le-of-suc-le-suc h)
 
-  pub fits-map : (f f′ g : A → Bool) → ((x : A) → T (f x) → T (f′ x)) → (n : ℕ) (xs : List A) → T (fits f g n xs) → T (fits f′ g n xs)
-  unfolding fits
-  fits-map f f′ g k zero [] t = tt
-  fits-map f f′ g k (suc n) [] t = t
-  fits-map f f′ g k zero (x ∷ xs) t = both (g x) _ (and-l (g x) _ t) (fits-map f f′ g k zero xs (and-r (g x) _ t))
-  fits-map f f′ g k (suc n) (x ∷ xs) t = both (f′ x) _ (k x (and-l (f x) _ t)) (fits-map f f′ g k n xs (and-r (f x) _ t))
-
   pub fits-push′ : (f g : A → Bool) (n : ℕ) (xs : List A) (m : A) → T (fits f g n xs) → n < length xs → T (f m) → T (fits f g (suc n) (set xs n m))
   unfolding fits
   fits-push′ f g n [] m t h u = absurd (not-suc-le-zero h)
@@ -190,10 +183,7 @@ module _ {A : Type 0} where
       let e : f (getD xs p d) ≤ weigh f n xs = weigh-at f n p xs d (le-of-suc-le-suc h) (le-of-suc-le-suc k) in omega arith
 
   pub weigh-zero : (f : A → ℕ) → ((x : A) → f x ≡ 0) → (n : ℕ) (xs : List A) → weigh f n xs ≡ 0
-  unfolding weigh
-  weigh-zero f h zero xs = refl
-  weigh-zero f h (suc n) [] = refl
-  weigh-zero f h (suc n) (x ∷ xs) = omega (arith, h x, weigh-zero f h n xs)
+  weigh-zero f h n xs = omega (arith, weigh-most f 0 (λ x. omega (arith, h x)) n xs)
 
   pub weigh-both : (f g h : A → ℕ) → ((x : A) → f x ≡ g x + h x) → (n : ℕ) (xs : List A) → weigh f n xs ≡ weigh g n xs + weigh h n xs
   unfolding weigh
@@ -262,20 +252,15 @@ module _ {A : Type 0} where
   unfolding array
   array-same f g x a b n m h = both (eqb (length (replicate m x)) m) _ (rw length-replicate (eqb-refl m)) (fits-same f g x a b n m h)
 
-  -- no place in use
-  pub array-unused : (f g : A → Bool) (x : A) → T (g x) → (m : ℕ) → T (array m f g 0 (replicate m x))
-  unfolding array fits
-  array-unused f g x t m = both (eqb (length (replicate m x)) m) _ (rw length-replicate (eqb-refl m)) (go m)
-    where
-      go : (k : ℕ) → T (fits f g 0 (replicate k x))
-      go zero = tt
-      go (suc k) = both (g x) _ t (go k)
-
   -- of places none of which is in use, it is not asked what those in use must pass
   fits-none : (f f′ g : A → Bool) (xs : List A) → fits f g 0 xs ≡ fits f′ g 0 xs
   unfolding fits
   fits-none f f′ g [] = refl
   fits-none f f′ g (x ∷ xs) = rw (fits-none f f′ g xs)
+
+  pub array-unused : (f g : A → Bool) (x : A) → T (g x) → (m : ℕ) → T (array m f g 0 (replicate m x))
+  unfolding array
+  array-unused f g x t m = rw (fits-none f g g (replicate m x)) (array-same g g x t t 0 m (omega arith))
 
   pub array-none : (f′ : A → Bool) (b : Bool) (places most : ℕ) (f g : A → Bool) (n : ℕ) (xs : List A) →
       (b && eqb n 0 && (leb n most && array places f g n xs)) ≡ (b && eqb n 0 && array places f′ g 0 xs)

@@ -3,7 +3,7 @@ use mathlib.Core.Path.{_≡_, refl, sym}
 use mathlib.Core.Bool.{Bool, true, false, not, _&&_, _||_, cond}
 use Prim.Native.Nat.{ℕ, _≤_, _<_}
 use native.Mathlib.Omega.{arith}
-use lib.Dec.{T, eqb, eqb→eq, eqb-refl}
+use lib.Dec.{T, eqb, eqb→eq, eqb-refl, not-T, T-not}
 use Rattle.lists.specs.Places.{ind}
 
 pub and-l : (a b : Bool) → T (a && b) → T a
@@ -37,14 +37,6 @@ T-true false t = absurd t
 pub F-false : (b : Bool) → T (not b) → b ≡ false
 F-false true t = absurd t
 F-false false t = refl
-
-pub not-T : (b : Bool) → (T b → ⊥) → T (not b)
-not-T true h = absurd (h tt)
-not-T false h = tt
-
-pub T-not : (b : Bool) → T (not b) → T b → ⊥
-T-not true h t = h
-T-not false h t = t
 
 pub not-not : (b : Bool) → T (not (not b)) → T b
 not-not true t = tt

@@ -6,12 +6,12 @@ use Prim.Native.Nat.{ℕ, zero, suc, _+_, _-_, _≤_, _<_}
 use native.Mathlib.Nat.{not-suc-le-zero, le-of-suc-le-suc, suc-sub-suc, sub-zero}
 use native.Mathlib.Numerals.{add-one}
 use native.Mathlib.Omega.{arith}
-use lib.Dec.{T}
+use lib.Dec.{T, not-T, T-not}
 use lib.ListN.{length, getD, set}
 use Rattle.lists.specs.Places.{ind, fits, weigh, tally, noneOf, removed, unlike}
-use Rattle.lists.proofs.Tests.{and-l, and-r, both, by-test, not-T, T-not, ind-T, ind-F}
+use Rattle.lists.proofs.Tests.{and-l, and-r, both, by-test, ind-T, ind-F}
 use Rattle.lists.proofs.Each.{each-none, each-suc}
-use Rattle.lists.proofs.Places.{fits-push′, fits-end, fits-pull′, fits-set, fits-map, fits-at, none-used, weigh-none}
+use Rattle.lists.proofs.Places.{fits-push′, fits-end, fits-pull′, fits-set, fits-any, fits-at, none-used, weigh-none}
 
 module _ {A : Type 0} where
   unlike-push′ : (same : A → A → Bool) (n : ℕ) (xs : List A) (m : A) → T (unlike same n xs) → n < length xs →
@@ -70,7 +70,7 @@ module _ {A : Type 0} where
   unfolding unlike removed fits
   unlike-rest′ same ok n p [] z d t h k f g = absurd (not-suc-le-zero k)
   unlike-rest′ same ok n zero (x ∷ xs) z d t h k f g =
-      fits-end ok (λ (y : A). true) n xs z (fits-map (λ (y : A). not (same x y)) ok (λ (y : A). true) g n xs (and-l (noneOf (same x) n xs) _ t)) tt
+      fits-end ok (λ (y : A). true) n xs z (fits-any (λ (y : A). not (same x y)) ok (λ (y : A). true) g n xs (and-l (noneOf (same x) n xs) _ t)) tt
   unlike-rest′ same ok zero (suc p) (x ∷ xs) z d t h k f g = absurd (not-suc-le-zero h)
   unlike-rest′ same ok (suc n) (suc p) (x ∷ xs) z d t h k f g =
       both (ok x) _
@@ -91,7 +91,7 @@ module _ {A : Type 0} where
   unlike-swap same ok zero p xs y d t h k f g u = absurd (not-suc-le-zero h)
   unlike-swap same ok (suc n) p [] y d t h k f g u = absurd (not-suc-le-zero k)
   unlike-swap same ok (suc n) zero (x ∷ xs) y d t h k f g u =
-      both (ok y) _ u (fits-map (λ (w : A). not (same x w)) ok (λ (w : A). true) g n xs (and-l (noneOf (same x) n xs) _ t))
+      both (ok y) _ u (fits-any (λ (w : A). not (same x w)) ok (λ (w : A). true) g n xs (and-l (noneOf (same x) n xs) _ t))
   unlike-swap same ok (suc n) (suc p) (x ∷ xs) y d t h k f g u =
       both (ok x) _
       (f x (fits-at (λ (w : A). not (same x w)) (λ (w : A). true) n xs p d (and-l (noneOf (same x) n xs) _ t) (le-of-suc-le-suc h)))

@@ -4,10 +4,10 @@ use mathlib.Core.List.{List, [], _∷_}
 use mathlib.Core.Bool.{Bool, true, false, not, _&&_, cond, Bool·beq}
 use Prim.Native.Nat.{ℕ, _+_, _≤_, _<_}
 use native.Mathlib.Omega.{arith}
-use lib.Dec.{T, ltb, eqb, ltb→lt, nltb→le, eqb→eq}
+use lib.Dec.{T, ltb, eqb, ltb→lt, nltb→le, eqb→eq, not-T, T-not}
 use lib.ListN.{length, getD, List·getD-eq-default}
 use Rattle.lists.specs.Places.{ind, weigh, tally, noneOf, count}
-use Rattle.lists.proofs.Tests.{and-l, and-r, by-test, by-cond, T-true, F-false, not-T, T-not, ne-of, of-ne, ind-F}
+use Rattle.lists.proofs.Tests.{and-l, and-r, by-test, by-cond, T-true, F-false, ne-of, of-ne, ind-F}
 use Rattle.lists.proofs.Places.{weigh-push, weigh-pull, weigh-set, weigh-none, array-at}
 use Rattle.model.specs.declared.Sizes.{Sizes}
 use Rattle.model.specs.declared.Message.{Message}

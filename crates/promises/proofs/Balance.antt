@@ -7,10 +7,10 @@ use mathlib.Core.Bool.{Bool, true, false, not, _&&_, _||_, cond}
 use Prim.Native.Nat.{ℕ, zero, suc, _+_, _≤_, _<_}
 use native.Mathlib.Nat.{not-suc-le-zero}
 use native.Mathlib.Omega.{arith}
-use lib.Dec.{T, ltb, eqb, eqb→eq, eqb-refl, ltb→lt}
+use lib.Dec.{T, ltb, eqb, eqb→eq, eqb-refl, ltb→lt, not-T, T-not}
 use lib.ListN.{length, getD, take}
 use Rattle.lists.specs.Places.{ind, weigh, tally, noneOf, unlike, sumBelow, count, each, some, allOf}
-use Rattle.lists.proofs.Tests.{and-l, and-r, both, or-l, or-r, by-test, T-true, not-T, T-not, eqb-sym, ind-F}
+use Rattle.lists.proofs.Tests.{and-l, and-r, both, or-l, or-r, by-test, T-true, eqb-sym, ind-F}
 use Rattle.lists.proofs.Places.{weigh-none, weigh-zero, weigh-both, weigh-alike}
 use Rattle.lists.proofs.Unlike.{unlike-once}
 use Rattle.lists.proofs.Below.{below-at, below-all, sum-same}

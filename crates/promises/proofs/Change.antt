@@ -5,9 +5,9 @@ use mathlib.Core.Bool.{Bool}
 use Prim.Native.Nat.{ℕ, _+_, _<_}
 use native.Mathlib.Omega.{arith}
 use native.Mathlib.Decide.{ℕ-discrete}
-use lib.Dec.{T, ltb, eqb, eqb→eq, lt→ltb}
+use lib.Dec.{T, ltb, eqb, eqb→eq, lt→ltb, not-T}
 use Rattle.lists.specs.Places.{ind, tally, sumBelow}
-use Rattle.lists.proofs.Tests.{and-l, and-r, cond-T, ind-F, not-T}
+use Rattle.lists.proofs.Tests.{and-l, and-r, cond-T, ind-F}
 use Rattle.lists.proofs.Places.{weigh-none}
 use Rattle.lists.proofs.Below.{sum-put}
 use Rattle.model.specs.declared.Sizes.{Sizes}

@@ -4,11 +4,11 @@ use mathlib.Core.List.{List, [], _∷_}
 use mathlib.Core.Bool.{Bool, true, false, _&&_}
 use Prim.Native.Nat.{ℕ, zero, suc, _+_, _*_, _≤_, _<_, min}
 use native.Mathlib.Omega.{arith}
-use lib.Dec.{T, leb, ltb, ltb→lt, lt→ltb, le→leb}
+use lib.Dec.{T, leb, ltb, ltb→lt, lt→ltb, le→leb, not-T, T-not}
 use lib.ListN.{length, length-append}
 use borrow.Author.Tests.{le-leb}
 use Rattle.lists.specs.Places.{each}
-use Rattle.lists.proofs.Tests.{and-l, and-r, both, by-cond, ind-T, T-true, F-false, not-T, T-not}
+use Rattle.lists.proofs.Tests.{and-l, and-r, both, by-cond, ind-T, T-true, F-false}
 use Rattle.lists.proofs.Counts.{each-map}
 use Rattle.numbers.proofs.Grouped.{bytes-last}
 use Rattle.model.specs.declared.System.{System}

@@ -4,11 +4,11 @@ use mathlib.Core.List.{List}
 use mathlib.Core.Bool.{Bool, true, false, not, _&&_}
 use Prim.Native.Nat.{ℕ, _+_, _-_, _≤_, _<_}
 use native.Mathlib.Omega.{arith}
-use lib.Dec.{T, eqb, eqb→eq}
+use lib.Dec.{T, eqb, eqb→eq, not-T, T-not}
 use lib.ListN.{length, getD, set, length-set}
 use Rattle.lists.specs.Places.{fits, array, eachOf, noneOf, removed}
-use Rattle.lists.proofs.Tests.{and-l, and-r, both, not-T, T-not, eqb-sym, not-eqb-sym}
-use Rattle.lists.proofs.Places.{array-length, array-fits, array-most, array-push, array-pull, array-set, fits-map, fits-any, fits-zip, fits-push, fits-pull, fits-set, set-turn}
+use Rattle.lists.proofs.Tests.{and-l, and-r, both, eqb-sym, not-eqb-sym}
+use Rattle.lists.proofs.Places.{array-length, array-fits, array-most, array-push, array-pull, array-set, fits-any, fits-zip, fits-push, fits-pull, fits-set, set-turn}
 use Rattle.lists.proofs.Unlike.{unlike-push, unlike-pull, unlike-set}
 use Rattle.lists.proofs.Below.{below-at, below-set}
 use Rattle.model.specs.declared.Sizes.{Sizes}
@@ -99,7 +99,7 @@ module _ (z : Sizes) (c : List CacheSet) (n : ℕ) (es : List Entry) (k : ℕ) (
     lines = unlike-push sameLine n es e (o .lines) (omega (arith, es-length)) u;
     w-tags = o .w-tags;
     e-tags = unlike-push samePendTag n es e (o .e-tags) (omega (arith, es-length))
-        (fits-map (λ (x : Entry). not (pendsUnder (e .tag) x)) (λ (x : Entry). not (samePendTag x e)) (λ (x : Entry). true) (tags-apart e) n es v);
+        (fits-any (λ (x : Entry). not (pendsUnder (e .tag) x)) (λ (x : Entry). not (samePendTag x e)) (λ (x : Entry). true) (tags-apart e) n es v);
     apart = fits-zip (λ (y : Waiting). noneOf (pendsUnder (y .tag)) n es) (λ (y : Waiting). not (eqb (y .tag) (e .tag)))
         (λ (y : Waiting). noneOf (pendsUnder (y .tag)) (n + 1) (set es n e)) (λ (y : Waiting). true) (λ (y : Waiting). true)
         (λ y a b. fits-push (λ (x : Entry). not (pendsUnder (y .tag) x)) (λ (x : Entry). true) n es e a (omega (arith, es-length))
@@ -118,7 +118,7 @@ module _ (z : Sizes) (c : List CacheSet) (n : ℕ) (es : List Entry) (k : ℕ) (
     lines = unlike-pull sameLine n p es noEntry (o .lines) h es-most;
     w-tags = o .w-tags;
     e-tags = unlike-pull samePendTag n p es noEntry (o .e-tags) h es-most;
-    apart = fits-map (λ (y : Waiting). noneOf (pendsUnder (y .tag)) n es) (λ (y : Waiting). noneOf (pendsUnder (y .tag)) (n - 1) (removed noEntry p es)) (λ (y : Waiting). true)
+    apart = fits-any (λ (y : Waiting). noneOf (pendsUnder (y .tag)) n es) (λ (y : Waiting). noneOf (pendsUnder (y .tag)) (n - 1) (removed noEntry p es)) (λ (y : Waiting). true)
         (λ y a. fits-pull (λ (x : Entry). not (pendsUnder (y .tag) x)) (λ (x : Entry). true) n p es noEntry a h tt) k ws (o .apart);
   }
 
@@ -133,11 +133,11 @@ module _ (z : Sizes) (c : List CacheSet) (n : ℕ) (es : List Entry) (k : ℕ) (
     waiting = o .waiting;
     absent = fits-set (λ (x : Entry). not (cached z c (x .line))) (λ (x : Entry). true) n p es (voluntaryEntry L) (o .absent) h a;
     lines = unlike-set sameLine n p es (voluntaryEntry L) (o .lines) h
-        (fits-map (λ (x : Entry). not (eqb (x .line) L)) (λ (x : Entry). not (eqb L (x .line))) (λ (x : Entry). true) (λ x a. not-eqb-sym (x .line) L a) n es u) u;
+        (fits-any (λ (x : Entry). not (eqb (x .line) L)) (λ (x : Entry). not (eqb L (x .line))) (λ (x : Entry). true) (λ x a. not-eqb-sym (x .line) L a) n es u) u;
     w-tags = o .w-tags;
     e-tags = unlike-set samePendTag n p es (voluntaryEntry L) (o .e-tags) h (any-entry (λ (x : Entry). true) (λ x. tt))
         (any-entry (λ (x : Entry). not (samePendTag x (voluntaryEntry L))) (λ x. no-tag (not (eqb (x .kind) voluntary))));
-    apart = fits-map (λ (y : Waiting). noneOf (pendsUnder (y .tag)) n es) (λ (y : Waiting). noneOf (pendsUnder (y .tag)) n (set es p (voluntaryEntry L))) (λ (y : Waiting). true)
+    apart = fits-any (λ (y : Waiting). noneOf (pendsUnder (y .tag)) n es) (λ (y : Waiting). noneOf (pendsUnder (y .tag)) n (set es p (voluntaryEntry L))) (λ (y : Waiting). true)
         (λ y a. fits-set (λ (x : Entry). not (pendsUnder (y .tag) x)) (λ (x : Entry). true) n p es (voluntaryEntry L) a h tt) k ws (o .apart);
   }
     where
@@ -158,7 +158,7 @@ module _ (z : Sizes) (c : List CacheSet) (n : ℕ) (es : List Entry) (k : ℕ) (
   -- no entry is for a line that is cached
   pub cached-free : (L : ℕ) → T (cached z c L) → T (noneOf (λ (x : Entry). eqb (x .line) L) n es)
   cached-free L t =
-      fits-map (λ (x : Entry). not (cached z c (x .line))) (λ (x : Entry). not (eqb (x .line) L)) (λ (x : Entry). true)
+      fits-any (λ (x : Entry). not (cached z c (x .line))) (λ (x : Entry). not (eqb (x .line) L)) (λ (x : Entry). true)
       (λ x a. not-T (eqb (x .line) L) (λ u. T-not (cached z c (x .line)) a (subst (λ (y : ℕ). T (cached z c y)) (sym (eqb→eq (x .line) L u)) t))) n es (o .absent)
 
   -- set j anew: a line that was not in it, and is an entry's, is not in it

@@ -1,10 +1,9 @@
 -- The potential: how many steps a system can still take before it needs a new instruction. At most 656.
 use Prim.Native.Nat.{ℕ, _+_, _*_, _≤_, _<_}
-use mathlib.Core.Bool.{Bool, true, false}
 use native.Mathlib.Omega.{arith}
 use lib.Dec.{ltb, ltb→lt, nltb→le}
 use Rattle.lists.specs.Places.{ind, weigh, sumBelow}
-use Rattle.lists.proofs.Tests.{by-test}
+use Rattle.lists.proofs.Tests.{by-test, ind-most}
 use Rattle.lists.proofs.Places.{weigh-most}
 use Rattle.lists.proofs.Below.{sum-less}
 use Rattle.model.specs.declared.Entry.{Entry}
@@ -38,11 +37,7 @@ potential s = sumBelow 4 (λ i. siteLeft (siteAt s i)) + 5 * s .up .count + 4 * 
 
 displacing-most : (k : ℕ) → displacing k ≤ 6
 unfolding displacing
-displacing-most k = go (ltb k reconcile)
-  where
-    go : (b : Bool) → 6 * ind b ≤ 6
-    go true = omega arith
-    go false = omega arith
+displacing-most k = omega (arith, ind-most (ltb k reconcile))
 
 entry-most : (e : Entry) → entryCost e ≤ 6
 unfolding entryCost

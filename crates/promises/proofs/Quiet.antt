@@ -4,9 +4,9 @@ use mathlib.Core.List.{[]}
 use mathlib.Core.Bool.{Bool, true, false, not}
 use Prim.Native.Nat.{ℕ, _+_, _≤_, _<_}
 use native.Mathlib.Omega.{arith}
-use lib.Dec.{T, ltb, eqb, ltb→lt, lt→ltb, nltb→le}
+use lib.Dec.{T, ltb, eqb, ltb→lt, lt→ltb, nltb→le, not-T, T-not}
 use Rattle.lists.specs.Places.{each}
-use Rattle.lists.proofs.Tests.{by-test, not-T, T-not}
+use Rattle.lists.proofs.Tests.{by-test}
 use Rattle.lists.proofs.Places.{none-used}
 use Rattle.lists.proofs.Below.{sum-at, sum-most, sum-within}
 use Rattle.lists.proofs.Counts.{each-map, mem-each, take-none, allOf-none}

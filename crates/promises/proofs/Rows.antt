@@ -3,9 +3,9 @@ use mathlib.Core.Path.{_≡_, refl}
 use mathlib.Core.Bool.{Bool, true, false, not, _&&_, _||_}
 use Prim.Native.Nat.{ℕ, zero, suc, _≤_, _<_}
 use native.Mathlib.Omega.{arith}
-use lib.Dec.{T, eqb, leb→le, nleb→lt, eqb→eq}
+use lib.Dec.{T, eqb, leb→le, nleb→lt, eqb→eq, not-T, T-not}
 use lib.ListN.{getD}
-use Rattle.lists.proofs.Tests.{and-l, and-r, by-or, by-cond, not-T, T-not, not-not, ne-of}
+use Rattle.lists.proofs.Tests.{and-l, and-r, by-or, by-cond, not-not, ne-of, or-l, or-r}
 use Rattle.model.specs.declared.Sizes.{Sizes}
 use Rattle.model.specs.declared.Message.{Message}
 use Rattle.model.specs.declared.Entry.{Entry}
@@ -52,19 +52,8 @@ module _ (z : Sizes) (x : Site) (w : Waiting) (p : Place) where
   missed-row k c =
       by-cond R (f .full || f .pending) Wait Fetch
       (λ t. by-or (f .full) (f .pending) t (λ u. waits-full (leb→le (z .pend) (x .pends) u)) (λ u. waits-pending u))
-      (λ t. fetches k c (nleb→lt (z .pend) (x .pends) (not-T (f .full) (λ u. T-not (f .full || f .pending) t (left u))))
-      (free (not-T (f .pending) (λ u. T-not (f .full || f .pending) t (right (f .full) u)))))
-    where
-      left : T (f .full) → T (f .full || f .pending)
-      left u = go (f .full) u
-        where
-          go : (a : Bool) → T a → T (a || f .pending)
-          go true u = tt
-          go false u = absurd u
-
-      right : (a : Bool) → T (f .pending) → T (a || f .pending)
-      right true u = tt
-      right false u = u
+      (λ t. fetches k c (nleb→lt (z .pend) (x .pends) (not-T (f .full) (λ u. T-not (f .full || f .pending) t (or-l (f .full) (f .pending) u))))
+      (free (not-T (f .pending) (λ u. T-not (f .full || f .pending) t (or-r (f .full) (f .pending) u)))))
 
   absent-row : commit ≤ w .kind → T (not (f .cached)) → R (absent f)
   unfolding absent

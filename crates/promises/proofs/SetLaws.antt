@@ -2,9 +2,9 @@
 use mathlib.Core.Path.{_≡_, sym, _∙_, subst}
 use mathlib.Core.Bool.{not, _&&_}
 use Prim.Native.Nat.{ℕ}
-use lib.Dec.{T, ltb, eqb, eqb→eq, eqb-refl}
+use lib.Dec.{T, ltb, eqb, eqb→eq, eqb-refl, not-T, T-not}
 use Rattle.lists.specs.Places.{fits, array}
-use Rattle.lists.proofs.Tests.{and-l, and-r, both, not-T, T-not, cond-T}
+use Rattle.lists.proofs.Tests.{and-l, and-r, both, cond-T}
 use Rattle.model.specs.declared.Sizes.{Sizes}
 use Rattle.model.specs.declared.Place.{Place}
 use Rattle.model.specs.declared.CacheSet.{CacheSet}

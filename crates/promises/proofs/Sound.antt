@@ -4,10 +4,10 @@ use mathlib.Core.List.{List}
 use mathlib.Core.Bool.{Bool}
 use Prim.Native.Nat.{ℕ, _*_, _≤_, _<_}
 use native.Mathlib.Omega.{arith}
-use lib.Dec.{T, leb, ltb, eqb, leb→le, le→leb, ltb→lt, lt→ltb, eqb→eq, nltb→le}
+use lib.Dec.{T, leb, ltb, eqb, leb→le, le→leb, ltb→lt, lt→ltb, eqb→eq, nltb→le, not-T}
 use lib.ListN.{length, take}
 use Rattle.lists.specs.Places.{array, eachOf, noneOf, unlike, allBelow, count, each, allOf}
-use Rattle.lists.proofs.Tests.{and-l, and-r, both, by-test, cond-T, cond-F, not-T}
+use Rattle.lists.proofs.Tests.{and-l, and-r, both, by-test, cond-T, cond-F}
 use Rattle.lists.proofs.Places.{array-length, array-most, array-at}
 use Rattle.lists.proofs.Below.{below-at, below-all}
 use Rattle.lists.proofs.Counts.{each-append, each-allOf, each-take, each-map}

@@ -5,11 +5,11 @@ use mathlib.Core.Bool.{Bool, true, false, not, _&&_, cond}
 use Prim.Native.Nat.{ℕ, _+_, _-_, _≤_, _<_}
 use native.Mathlib.Nat.{mod-lt}
 use native.Mathlib.Omega.{arith}
-use lib.Dec.{T, leb, ltb, eqb, leb→le, ltb→lt, lt→ltb, eqb→eq, eqb-refl}
+use lib.Dec.{T, leb, ltb, eqb, leb→le, ltb→lt, lt→ltb, eqb→eq, eqb-refl, not-T, T-not}
 use lib.ListN.{length, getD, set}
 use lib.Seq.{set-set, getD-set-same}
 use Rattle.lists.specs.Places.{ind, fits, array, tally, noneOf, removed, unlike, firstAt}
-use Rattle.lists.proofs.Tests.{ind-and, and-l, and-r, both, by-test, T-true, not-T, T-not, not-eqb-sym, ind-T}
+use Rattle.lists.proofs.Tests.{ind-and, and-l, and-r, both, by-test, T-true, not-eqb-sym, ind-T}
 use Rattle.lists.proofs.Places.{array-at, array-same, fits-at, weigh-pull, weigh-set, weigh-at, weigh-both, weigh-less, first-below, first-passes}
 use Rattle.lists.proofs.Below.{sum-at}
 use Rattle.lists.proofs.Unlike.{unlike-rest, unlike-swap, unlike-once}

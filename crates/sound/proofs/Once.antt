@@ -4,10 +4,10 @@ use mathlib.Core.List.{List, [], _∷_}
 use mathlib.Core.Bool.{Bool, true, not, _&&_}
 use Prim.Native.Nat.{ℕ, _+_, _≤_, _<_}
 use native.Mathlib.Omega.{arith}
-use lib.Dec.{T, ltb, eqb, eqb→eq, eqb-refl, ltb→lt, nltb→le}
+use lib.Dec.{T, ltb, eqb, eqb→eq, eqb-refl, ltb→lt, nltb→le, not-T, T-not}
 use lib.ListN.{length}
 use Rattle.lists.specs.Places.{ind, weigh, tally, unlike, sumBelow, count, each, some}
-use Rattle.lists.proofs.Tests.{and-l, and-r, both, by-test, not-T, T-not, ind-T, ind-F, same-test}
+use Rattle.lists.proofs.Tests.{and-l, and-r, both, by-test, ind-T, ind-F, same-test}
 use Rattle.lists.proofs.Places.{weigh-zero, weigh-both, weigh-alike, tally-all}
 use Rattle.lists.proofs.Unlike.{unlike-most}
 use Rattle.lists.proofs.Below.{below-at, sum-same, sum-both, sum-at, sum-most, sum-less, once-below}
