@@ -12,6 +12,7 @@ use Rattle.model.specs.declared.System.{System}
 use Rattle.model.specs.declared.Step.{Step}
 use Rattle.model.specs.declared.Refusal.{Refusal}
 use Rattle.model.specs.declared.Refusal.the-variants.{NotSound, BufferShort}
+use Rattle.model.specs.declared.Outcome.the-variants.{Refused}
 use Rattle.model.specs.Limits.{mostDrain}
 use Rattle.model.specs.Sound.{sound}
 use Rattle.model.specs.Record.{stepsBytes}
@@ -45,8 +46,12 @@ drained-read s t b buf k = rw (T-true (sound s) t, le-leb (2 * min b mostDrain) 
 
 -- THE REST OF THE BUFFER
 
+refusal-same : (s : System) (buf : List ℕ) (r q : Refusal) → drainGives (undrained r s) buf .result .outcome ≡ Refused q →
+    (drainGives (undrained r s) buf .result .system ≡ s) × (drainGives (undrained r s) buf .buffer ≡ buf)
+refusal-same s buf r q e = (refl, refl)
+
 refusal-kept : (s : System) (buf : List ℕ) (r : Refusal) → DrainKept s buf (drainGives (undrained r s) buf)
-refusal-kept s buf r = record { length-kept = refl; refused-kept = λ q e. (refl, refl); others-kept = λ i l. refl }
+refusal-kept s buf r = record { length-kept = refl; refused-kept = refusal-same s buf r; others-kept = λ i l. refl }
 
 past-kept : (new buf : List ℕ) (i : ℕ) → length new ≤ i → getD (sets buf 0 new) i 0 ≡ getD buf i 0
 past-kept new buf i l = sets-kept new buf 0 i (λ k. omega arith)

@@ -12,7 +12,7 @@ use Rattle.model.specs.declared.ReadStep.{ReadStep}
 use Rattle.model.specs.declared.ReadStep.the-variants.{One, End, NoStep}
 use Rattle.model.specs.Record.{readSizes, readStep}
 use Rattle.promises.specs.Reading.{Ending, whole, broken, Reading, ended, stopped, further, Read, asRecord, sizesRefused, stepRefused}
-use Rattle.promises.specs.Promises.{ReadOnce, ReadOn, ReadAnswered, ReadFault}
+use Rattle.promises.specs.Promises.{ReadOn, ReadAnswered, ReadFault}
 use Rattle.promises.proofs.Readers.{step-says, step-numbers, step-within}
 
 -- BEHIND ITS START
@@ -53,7 +53,7 @@ all-read bs = go (readSizes bs) refl
 
 -- THE ONE ENDING
 
-pub same-reading : ReadOnce
+pub same-reading : (bs : List ℕ) (at : ℕ) (xs ys : List Step) (e f : Ending) → Reading bs at xs e → Reading bs at ys f → (xs ≡ ys) × (e ≡ f)
 same-reading bs at xs ys e f (ended a p) (ended b q) = (refl, refl)
 same-reading bs at xs ys e f (ended a p) (stopped b r q) = (cc, cc)
 same-reading bs at xs ys e f (ended a p) (further b next y zs g q v) = (cc, cc)

@@ -75,8 +75,11 @@ record-put z xs buf t m l =
 
 -- THE OTHER BYTES
 
+refusal-same : (buf : List ℕ) (r s : Refusal) → written (NotWritten r) buf .wrote ≡ NotWritten s → written (NotWritten r) buf .buffer ≡ buf
+refusal-same buf r s e = refl
+
 refusal-kept : (at : ℕ) (buf : List ℕ) (r : Refusal) → Kept at buf (written (NotWritten r) buf)
-refusal-kept at buf r = record { length-kept = refl; refused-kept = λ s e. refl; others-kept = λ end i e h. refl }
+refusal-kept at buf r = record { length-kept = refl; refused-kept = refusal-same buf r; others-kept = λ end i e h. refl }
 
 -- a place before them, or past them
 pub sets-kept : (new buf : List ℕ) (at i : ℕ) → (at ≤ i → at + length new ≤ i) → getD (sets buf at new) i 0 ≡ getD buf i 0
