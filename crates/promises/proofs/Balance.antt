@@ -73,6 +73,11 @@ isAt i f m = eqb (m .site) i && f (m .line) (tripOf (m .kind))
 abbrev pub asksAt : (ℕ → ℕ → Bool) → Entry → Bool
 asksAt f e = f (e .line) (tripFor (e .kind))
 
+-- a message on the trip that an entry asks for is counted as the entry is
+pub as-asked : (i : ℕ) (m : Message) (e : Entry) → m .site ≡ i → m .line ≡ e .line → tripOf (m .kind) ≡ tripFor (e .kind) → (f : ℕ → ℕ → Bool) →
+    ind (isAt i f m) ≡ ind (asksAt f e)
+as-asked i m e s l t f = rw (s, l, t, T-true (eqb i i) (eqb-refl i))
+
 abbrev pub Balance : System → Type 0
 Balance s = (i : ℕ) → i < s .sizes .sites → (f : ℕ → ℕ → Bool) → total (isAt i f) s ≡ tally (asksAt f) (siteAt s i .pends) (siteAt s i .entries)
 

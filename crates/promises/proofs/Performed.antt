@@ -10,7 +10,7 @@ use lib.ListN.{length, set}
 use lib.Seq.{getD-set-same}
 use borrow.Author.Tests.{ne-eqb, lt-ltb, le-ltb}
 use Rattle.lists.specs.Places.{ind, fits, array, eachOf, noneOf}
-use Rattle.lists.proofs.Tests.{and-l, and-r, both, or-l, T-true, of-ne}
+use Rattle.lists.proofs.Tests.{and-l, and-r, both, or-l, of-ne}
 use Rattle.lists.proofs.Places.{array-set, weigh-push}
 use Rattle.model.specs.declared.Sizes.{Sizes}
 use Rattle.model.specs.declared.Message.{Message}
@@ -25,7 +25,7 @@ use Rattle.model.specs.Parts.{Site, withCache, pastSet}
 use Rattle.model.specs.Sets.{wordsFit, marksFit, holds, setNumber, setFits, has, without, anew, setOf, cached}
 use Rattle.model.specs.Sound.{request, messageFits, carries, waitingFits, entryFits, waitsUnder, pendsUnder, tripOf, tripFor}
 use Rattle.model.specs.Handling.{lineFree, placeOf, putSet, dropped, entryOf, fetchOf, writeBackOf, asked, written, performed}
-use Rattle.promises.proofs.Balance.{inSite, isAt, asksAt}
+use Rattle.promises.proofs.Balance.{inSite, isAt, asksAt, as-asked}
 use Rattle.promises.proofs.Queues.{own-put, own-gains}
 use Rattle.promises.proofs.Sound.{Own, Ready, ready-close, pends-room}
 use Rattle.promises.proofs.Change.{Change, composed}
@@ -90,12 +90,9 @@ module _ (z : Sizes) (i : ℕ) (x : Site) (r : Ready z i x) where
           arith,
           own-gains z request i (x .outgoing) (r .out) (isAt i f) m l (r .limits .pend-most),
           weigh-push (λ y. ind (asksAt f y)) (x .pends) (x .entries) e (pends-room z i x r n),
-          same f,
+          as-asked i m e p q c f,
         );
   }
-    where
-      same : (f : ℕ → ℕ → Bool) → ind (isAt i f m) ≡ ind (asksAt f e)
-      same f = rw (p, q, c, T-true (eqb i i) (eqb-refl i))
 
 -- A LINE'S SET
 

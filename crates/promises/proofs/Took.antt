@@ -9,7 +9,7 @@ use lib.Dec.{T, leb, ltb, eqb, leb→le, ltb→lt, lt→ltb, eqb→eq, eqb-refl,
 use lib.ListN.{length, getD, set}
 use lib.Seq.{set-set, getD-set-same}
 use Rattle.lists.specs.Places.{ind, fits, array, tally, noneOf, removed, unlike, firstAt}
-use Rattle.lists.proofs.Tests.{ind-and, and-l, and-r, both, by-test, T-true, not-eqb-sym, ind-T}
+use Rattle.lists.proofs.Tests.{ind-and, and-l, and-r, both, by-test, not-eqb-sym, ind-T}
 use Rattle.lists.proofs.Places.{array-at, array-same, fits-at, weigh-pull, weigh-set, weigh-at, weigh-both, weigh-less, first-below, first-passes}
 use Rattle.lists.proofs.Below.{sum-at}
 use Rattle.lists.proofs.Unlike.{unlike-rest, unlike-swap, unlike-once}
@@ -26,7 +26,7 @@ use Rattle.model.specs.Sets.{wordsFit, marksFit, holds, setNumber, placeFits, s
 use Rattle.model.specs.Sound.{request, reply, ofSite, messageFits, carries, entryFits, freeEntry, sameLine, tripOf, tripFor}
 use Rattle.model.specs.Handling.{Handled, putSet, writeBackOf}
 use Rattle.model.specs.Take.{removedEntry, voluntaryEntry, evicted, caching, taken}
-use Rattle.promises.proofs.Balance.{inSite, total, isAt, asksAt}
+use Rattle.promises.proofs.Balance.{inSite, total, isAt, asksAt, as-asked}
 use Rattle.promises.proofs.Queues.{own-head, own-put, own-rest, own-gains, own-loses}
 use Rattle.promises.proofs.Sound.{Sound, Own, Ready, ready-close, ready-pends}
 use Rattle.promises.proofs.Room.{ready, below-four, site-room}
@@ -132,13 +132,6 @@ module _ (z : Sizes) (i : ℕ) (x : Site) (r : Ready z i x) (l : 0 < x .incoming
   m-site : m .site ≡ i
   m-site = eqb→eq (m .site) i (and-r (messageFits z reply m) _ m-fine)
 
-  inside : x .pends ≤ length (x .entries)
-  inside = ready-pends z i x r
-
-  -- the reply leaves as its entry does
-  same : (f : ℕ → ℕ → Bool) → ind (isAt i f m) ≡ ind (asksAt f e)
-  same f = rw (m-site, sym line-is, sym trip-is, T-true (eqb i i) (eqb-refl i))
-
   -- the entry is removed
   removing : (c : List CacheSet) → Own z c (x .pends - 1) (removed noEntry p (x .entries)) (x .stalls) (x .waiting) → Change z i x (removedEntry (withCache x₁ c) p)
   unfolding inSite
@@ -153,9 +146,9 @@ module _ (z : Sizes) (i : ℕ) (x : Site) (r : Ready z i x) (l : 0 < x .incoming
     balance = λ f.
         omega (
           arith,
-          same f,
+          as-asked i m e m-site (sym line-is) (sym trip-is) f,
           own-loses z reply i (x .incoming) (r .inc) (isAt i f) l,
-          weigh-pull (λ y. ind (asksAt f y)) (x .pends) p (x .entries) noEntry pastEntry below inside,
+          weigh-pull (λ y. ind (asksAt f y)) (x .pends) p (x .entries) noEntry pastEntry below (ready-pends z i x r),
         );
   }
 
@@ -174,16 +167,13 @@ module _ (z : Sizes) (i : ℕ) (x : Site) (r : Ready z i x) (l : 0 < x .incoming
     balance = λ f.
         omega (
           arith,
-          same f,
+          as-asked i m e m-site (sym line-is) (sym trip-is) f,
           own-loses z reply i (x .incoming) (r .inc) (isAt i f) l,
           own-gains z request i (x .outgoing) (r .out) (isAt i f) (writeBackOf i old) room (r .limits .pend-most),
-          weigh-set (λ y. ind (asksAt f y)) (x .pends) p (x .entries) (voluntaryEntry (old .line)) pastEntry below inside,
-          as-asked f,
+          weigh-set (λ y. ind (asksAt f y)) (x .pends) p (x .entries) (voluntaryEntry (old .line)) pastEntry below (ready-pends z i x r),
+          as-asked i (writeBackOf i old) (voluntaryEntry (old .line)) refl refl refl f,
         );
   }
-    where
-      as-asked : (f : ℕ → ℕ → Bool) → ind (isAt i f (writeBackOf i old)) ≡ ind (asksAt f (voluntaryEntry (old .line)))
-      as-asked f = rw (T-true (eqb i i) (eqb-refl i))
 
   -- THE LINE GOES INTO THE CACHE
 
@@ -240,7 +230,7 @@ module _ (z : Sizes) (i : ℕ) (x : Site) (r : Ready z i x) (l : 0 < x .incoming
         cache-put z (x .cache) (x .pends - 1) (removed noEntry p (x .entries)) (x .stalls) (x .waiting)
         (pend-pull z (x .cache) (x .pends) (x .entries) (x .stalls) (x .waiting) (r .own) p below) j (placed z t new) (λ (y : Entry). not (holds new (y .line)))
         (j-8 z i x r (e .line)) placed-ok (λ y a b. placed-others z j t t-fits new (y .line) a b)
-        (unlike-rest sameLine (λ (y : Entry). not (holds new (y .line))) (x .pends) p (x .entries) noEntry pastEntry (r .own .lines) below inside apart-a apart-b)
+        (unlike-rest sameLine (λ (y : Entry). not (holds new (y .line))) (x .pends) p (x .entries) noEntry pastEntry (r .own .lines) below (ready-pends z i x r) apart-a apart-b)
 
     module _ (o-used : T (old .used)) where
       o-full : Full z j old
@@ -275,7 +265,7 @@ module _ (z : Sizes) (i : ℕ) (x : Site) (r : Ready z i x) (l : 0 < x .incoming
           j (placed z t new) (λ (y : Entry). not (holds new (y .line))) (j-8 z i x r (e .line)) placed-ok
           (λ y a b. placed-gone z j t t-fits new (y .line) o-used
           (subst (λ (v : CacheSet). T (not (has v (y .line)))) (getD-set-same (x .cache) j (without t (old .line)) pastSet (j-most z i x r (e .line))) a) b)
-          (unlike-swap sameLine (λ (y : Entry). not (holds new (y .line))) (x .pends) p (x .entries) (voluntaryEntry (old .line)) pastEntry (r .own .lines) below inside
+          (unlike-swap sameLine (λ (y : Entry). not (holds new (y .line))) (x .pends) p (x .entries) (voluntaryEntry (old .line)) pastEntry (r .own .lines) below (ready-pends z i x r)
           apart-a apart-b (apart-a (voluntaryEntry (old .line)) o-other)))
 
     caching-change : Change z i x (caching z i x₁ p new)
