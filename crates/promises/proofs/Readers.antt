@@ -1,5 +1,5 @@
 -- What the readers of sizes and of a step give: their numbers, read in turn, or a refusal with its place.
-use mathlib.Core.Path.{_≡_, refl, ap}
+use mathlib.Core.Path.{_≡_, refl}
 use mathlib.Core.List.{List, [], _∷_}
 use mathlib.Core.Bool.{cond}
 use mathlib.Core.Logic.{_⊎_, inl, inr}
@@ -7,6 +7,7 @@ use Prim.Native.Nat.{ℕ, zero, suc, _≤_, _<_}
 use native.Mathlib.Omega.{arith}
 use lib.Dec.{T, leb, eqb, leb→le, nleb→lt, eqb→eq}
 use lib.ListN.{length, getD}
+use Rattle.lists.proofs.Long.{placed, by-places}
 use Rattle.lists.proofs.Tests.{by-cond}
 use Rattle.numbers.specs.declared.Got.{Got}
 use Rattle.numbers.specs.declared.Got.the-variants.{Number, Fault}
@@ -26,21 +27,6 @@ use Rattle.model.specs.Issue.{kindOf}
 use Rattle.model.specs.Record.{mostNumber, sixOf, operands, numbersOf, Numbers, numbers, faultAt, readNumbers, sizesOf, sizesFrom, readSizes, issueLimits, instructionOf, issueFrom, readIssue, moveOf, readMove, readFields, stepAt, readStepOf, readStep}
 use Rattle.promises.specs.Promises.{Faulty, tooLong, faultAt, SizesFault}
 use Rattle.promises.proofs.InTurn.{found, by-number, InTurn, noMore, oneMore, mosts, NumbersSay, numbers-say}
-
--- A LIST BY ITS PLACES
-
--- the numbers of the first n places
-unfoldable placed : ℕ → (ℕ → ℕ) → List ℕ
-placed zero f = []
-placed (suc n) f = f 0 ∷ placed n (λ i. f (suc i))
-
-by-places : (n : ℕ) (vs : List ℕ) → length vs ≡ n → placed n (λ i. getD vs i 0) ≡ vs
-unfolding placed
-by-places n vs e = rw (← e) (all vs)
-  where
-    all : (ws : List ℕ) → placed (length ws) (λ i. getD ws i 0) ≡ ws
-    all [] = refl
-    all (w ∷ ws) = ap (λ (l : List ℕ). w ∷ l) (all ws)
 
 -- SIZES
 
@@ -62,7 +48,7 @@ sizes-say bs =
   where
     go : length bs ≤ mostBytes → (r : Numbers) → NumbersSay 6 bs 0 r → SizesSay bs (sizesFrom r)
     go l (numbers vs past) h =
-        by-cond (SizesSay bs) (inLimits (sizesOf vs)) _ _ (λ t. record { short = l; limits = t; six = rw (by-places 6 vs (h .0)) (h .1) }) (λ t. inl refl)
+        by-cond (SizesSay bs) (inLimits (sizesOf vs)) _ _ (λ t. record { short = l; limits = t; six = rw (by-places 6 vs 0 (h .0)) (h .1) }) (λ t. inl refl)
     go l (faultAt place) h = inr (faultAt place (h (omega arith)))
 
 pub sizes-read : (bs : List ℕ) {z : Sizes} {past : ℕ} → readSizes bs ≡ Sized z past → SizesRead bs z past
@@ -102,9 +88,9 @@ IssueNumbers k =
 issue-numbers : (k : ℕ) → T (leb k 7) → IssueNumbers k
 unfolding issueLimits instructionOf numbersOf operands kindOf placed
 issue-numbers =
-    each-kind IssueNumbers (λ i vs e. rw (by-places 2 vs e)) (λ i vs e. rw (by-places 3 vs e)) (λ i vs e. rw (by-places 2 vs e))
-    (λ i vs e. rw (by-places 2 vs e)) (λ i vs e. rw (by-places 3 vs e)) (λ i vs e. rw (by-places 3 vs e)) (λ i vs e. rw (by-places 3 vs e))
-    (λ i vs e. rw (by-places 3 vs e))
+    each-kind IssueNumbers (λ i vs e. rw (by-places 2 vs 0 e)) (λ i vs e. rw (by-places 3 vs 0 e)) (λ i vs e. rw (by-places 2 vs 0 e))
+    (λ i vs e. rw (by-places 2 vs 0 e)) (λ i vs e. rw (by-places 3 vs 0 e)) (λ i vs e. rw (by-places 3 vs 0 e)) (λ i vs e. rw (by-places 3 vs 0 e))
+    (λ i vs e. rw (by-places 3 vs 0 e))
 
 -- A STEP
 
