@@ -6,7 +6,7 @@ use Prim.Native.Nat.{ℕ, _*_, _≤_, _<_}
 use native.Mathlib.Omega.{arith}
 use lib.Dec.{T, leb, ltb, eqb, leb→le, le→leb, ltb→lt, lt→ltb, eqb→eq, nltb→le, not-T}
 use lib.ListN.{length, take}
-use Rattle.lists.specs.Places.{array, eachOf, noneOf, unlike, allBelow, count, each, allOf}
+use Rattle.lists.specs.Places.{array, eachOf, noneOf, unlike, allBelow, each, allOf}
 use Rattle.lists.proofs.Tests.{and-l, and-r, both, by-test, cond-T, cond-F}
 use Rattle.lists.proofs.Places.{array-length, array-most, array-at}
 use Rattle.lists.proofs.Below.{below-at, below-all}
