@@ -2,11 +2,11 @@
 use mathlib.Core.Path.{_≡_, refl, ap}
 use mathlib.Core.List.{List, [], _∷_, _++_}
 use mathlib.Core.Bool.{Bool, true, false, _&&_, Bool·beq}
-use Prim.Native.Nat.{ℕ, _+_}
+use Prim.Native.Nat.{ℕ, _+_, _≤_}
 use native.Mathlib.Omega.{arith}
 use lib.Dec.{T}
 use Rattle.lists.specs.Places.{ind, count}
-use Rattle.lists.proofs.Tests.{both, some-T}
+use Rattle.lists.proofs.Tests.{and-r, both, some-T}
 use Rattle.lists.proofs.Counts.{count-append, count-both}
 use Rattle.model.specs.declared.Sizes.{Sizes}
 use Rattle.model.specs.declared.System.{System}
@@ -16,7 +16,7 @@ use Rattle.model.specs.Limits.{mayBeFresh}
 use Rattle.model.specs.Fresh.{blank}
 use Rattle.model.specs.Parts.{Site}
 use Rattle.model.specs.Steps.{stepOf, answerOf}
-use Rattle.promises.specs.Runs.{afterRun, Event, events, Turn, free, due, alternate, isIssued, isAnswered}
+use Rattle.promises.specs.Runs.{afterRun, Event, issued, answered, events, Turn, free, due, alternate, isIssued, isAnswered}
 use Rattle.promises.specs.Promises.{run, Alternating, AllAnswered}
 use Rattle.promises.proofs.Sound.{Sound, limits}
 use Rattle.promises.proofs.Stepping.{stepping}
@@ -27,7 +27,12 @@ use Rattle.promises.proofs.Answers.{outstanding, left, formOf, by-forms
 
 -- TURNS
 
--- how many of each form are outstanding
+-- how many are outstanding
+abbrev waiting : Turn → ℕ
+waiting free = 0
+waiting (due b) = 1
+
+-- how many of each form are
 abbrev held : Turn → Bool → ℕ
 held free c = 0
 held (due b) c = ind (Bool·beq b c)
@@ -144,6 +149,20 @@ module _ (z : Sizes) (l : T (mayBeFresh z)) where
 
 pub alternates : Alternating
 alternates z l xs i t = alternate-by i t (blank z) (fresh-sound z l) free (fresh-out z l i t) xs
+
+-- as many answers as instructions, with what is due before them, or one fewer
+counts-near : (u : Turn) (es : List Event) → T (alternate u es) →
+    (count isAnswered es ≤ waiting u + count isIssued es) × (waiting u + count isIssued es ≤ count isAnswered es + 1)
+unfolding alternate count
+counts-near free [] t = omega arith
+counts-near (due b) [] t = omega arith
+counts-near free (issued b ∷ es) t = omega (arith, counts-near (due b) es t)
+counts-near free (answered c ∷ es) t = absurd t
+counts-near (due b) (issued c ∷ es) t = absurd t
+counts-near (due b) (answered c ∷ es) t = omega (arith, counts-near free es (and-r (Bool·beq b c) _ t))
+
+pub one-behind : (es : List Event) → T (alternate free es) → (count isAnswered es ≤ count isIssued es) × (count isIssued es ≤ count isAnswered es + 1)
+one-behind es t = omega (arith, counts-near free es t)
 
 pub all-answered : AllAnswered
 all-answered z l xs q = settled z l xs (quiet-idle (run z xs) (run-kept (blank z) (fresh-sound z l) xs) q)

@@ -16,7 +16,8 @@ use Rattle.model.specs.Parts.{siteAt}
 use Rattle.model.specs.Sound.{request, reply, ofSite, messageFits, siteQueueFits, sound}
 use Rattle.model.specs.Steps.{stepOf, stepped, isDone}
 use Rattle.model.specs.Drain.{accepts, candidatesOf, quiet, drained, drainOf}
-use Rattle.promises.specs.Promises.{refuses, run, FreshSound, StepSound, RunSound, RefusedStays, DoneGiven, RefusalGiven, RunBound, QuietMeans, QuietEmpty, Alternating, AllAnswered, MovesMost, DrainQuiet, DrainFits, DrainRead, DrainKeeps, ChoicesMost, Roomy, RunRoomy, RecordBytes, RecordRead, RecordOnly, ReadOnce, ReadOn, ReadAnswered, SizesFault, ReadFault, RecordWritten, WriteKeeps, ListingWhole}
+use Rattle.promises.specs.Promises.{refuses, run, FreshSound, StepSound, RunSound, RefusedStays, DoneGiven, RefusalGiven, RunBound, QuietMeans, QuietEmpty, Alternating, OneOutstanding, AllAnswered, MovesMost, DrainQuiet, DrainFits, DrainRead, DrainKeeps, ChoicesMost, Roomy, RunRoomy, RecordBytes, RecordRead, RecordOnly, ReadOnce, ReadOn, ReadAnswered, SizesFault, ReadFault, RecordWritten, WriteKeeps, ListingWhole}
+use Rattle.promises.specs.Runs.{events}
 use Rattle.promises.proofs.Given.{done-by-number, refusal-unanswered}
 use Rattle.promises.proofs.Queues.{queue-most}
 use Rattle.promises.proofs.Sound.{Sound, opened, closed}
@@ -27,7 +28,7 @@ use Rattle.promises.proofs.Kept.{kept, fresh-sound}
 use Rattle.promises.proofs.Bound.{run-bound, most-moves}
 use Rattle.promises.proofs.Quiet.{quiet-all, all-quiet, quiet-none}
 use Rattle.promises.proofs.Drain.{drained-always, room-always, drained-bytes}
-use Rattle.promises.proofs.Alternate.{alternates, all-answered}
+use Rattle.promises.proofs.Alternate.{alternates, one-behind, all-answered}
 use Rattle.promises.proofs.Choices.{choices, accepted-candidate, candidates-once}
 use Rattle.promises.proofs.Readers.{sizes-faulty}
 use Rattle.promises.proofs.ReadBack.{read-back}
@@ -110,6 +111,9 @@ quiet-empty s t q = quiet-none s (opened s t) q
 
 pub alternating : Alternating
 alternating = alternates
+
+pub one-outstanding : OneOutstanding
+one-outstanding z l xs i t = one-behind (events i t (blank z) xs) (alternates z l xs i t)
 
 pub all-are-answered : AllAnswered
 all-are-answered = all-answered

@@ -104,6 +104,13 @@ QuietEmpty = (s : System) → T (sound s) → T (quiet s) → underWay s ≡ []
 abbrev pub Alternating : Type 0
 Alternating = (z : Sizes) → T (mayBeFresh z) → (xs : List Step) (i t : ℕ) → T (alternate free (events i t (blank z) xs))
 
+-- So no more than one is outstanding: along every run the accepted instructions are as many as the answers, or one more.
+abbrev pub OneOutstanding : Type 0
+OneOutstanding =
+    (z : Sizes) → T (mayBeFresh z) → (xs : List Step) (i t : ℕ) →
+    (count isAnswered (events i t (blank z) xs) ≤ count isIssued (events i t (blank z) xs)) ×
+    (count isIssued (events i t (blank z) xs) ≤ count isAnswered (events i t (blank z) xs) + 1)
+
 -- Where the run ends quiet, each accepted instruction, fences included, has been answered exactly once, at its own site and under its own tag.
 abbrev pub AllAnswered : Type 0
 AllAnswered =
