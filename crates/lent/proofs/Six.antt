@@ -8,7 +8,7 @@ use mir.Val.{Val, vint}
 use base.Logic.{ent, emp}
 use prog.Wp.{Heap}
 use ghost.Atoms.{Atoms, sem}
-use types.Kit.{Given, ‵, _$_, _∵_, !, qed, fjoin, done}
+use types.Kit.{Given, _$_, _∵_, !, qed, fjoin, done}
 use denote.RattleType.{RattleType, owns}
 use denote.Laws.{Is}
 use denote.Plain.{uint-makes}
