@@ -1,22 +1,20 @@
 -- What a row that was read says: the numbers behind an instruction's number, and the six sizes.
 use mathlib.Core.Path.{_≡_, refl, ap, sym}
 use mathlib.Core.List.{List}
-use mathlib.Core.Bool.{Bool, false, _&&_}
-use Prim.Native.Nat.{ℕ, zero, suc, _≤_, _<_, min}
+use mathlib.Core.Bool.{false}
+use Prim.Native.Nat.{ℕ, zero, suc, _≤_, _<_}
 use native.Mathlib.Omega.{arith}
-use lib.Dec.{T, leb, eqb, leb→le, le→leb}
+use lib.Dec.{leb, eqb, leb→le}
 use lib.ListN.{length, getD, take}
 use lib.Seq.{getD-take, take-all}
-use Rattle.lists.proofs.Tests.{by-test, T-true, F-false, and-l, and-r, same-test, both}
-use Rattle.model.specs.declared.Sizes.{Sizes}
+use Rattle.lists.proofs.Tests.{by-test, T-true, F-false}
 use Rattle.model.specs.declared.Step.the-variants.{Issue}
 use Rattle.model.specs.declared.Refusal.the-variants.{SizeOutside}
 use Rattle.model.specs.declared.ReadSizes.the-variants.{NoSizes}
 use Rattle.model.specs.declared.ReadStep.{ReadStep}
 use Rattle.model.specs.declared.ReadStep.the-variants.{One}
 use Rattle.model.specs.Kinds.{storel, reconcile}
-use Rattle.model.specs.Limits.{within, inLimits}
-use Rattle.model.specs.Record.{numbers, issueLimits, instructionOf, issueFrom, sizesOf, sizedBy, sizesFrom}
+use Rattle.model.specs.Record.{numbers, issueLimits, instructionOf, issueFrom, sizedBy, sizesFrom}
 use Rattle.codes.specs.Capped.{capped}
 use Rattle.codes.proofs.Cut.{cut-alike}
 

@@ -8,7 +8,6 @@ mod text;
 use crate::sums::mix_refusal;
 use crate::sums::mix_sizes;
 use crate::sums::mix_step;
-use crate::sums::mixed;
 use crate::sums::more;
 use crate::text::put;
 use model::ReadSizes;

@@ -6,10 +6,6 @@ use Prim.Native.Nat.{_≤_, _-_}
 use borrow.Author.Needs.{needs}
 use Rattle.strings.proofs.every_string.Statement.{statement}
 use Rattle.strings.proofs.every_string.Tie as tie
-use Rattle.strings.proofs.every_string.Reads as reads
-use Rattle.strings.proofs.every_string.Lts as lts
-use Rattle.strings.proofs.nothing.Reads as nothing-reads
-use Rattle.strings.proofs.read_string.Reads as read-string-reads
 
 abbrev Inv-loop : tie.InvT-loop
 Inv-loop size count seen₀ bytes₀ i₀ seen bytes i = (i ≤ count) × (length bytes ≡ 3)

@@ -4,10 +4,6 @@ use Prim.Native.Nat.{_≤_, _-_}
 use borrow.Author.Needs.{needs}
 use Rattle.strings.proofs.random_string.Statement.{statement}
 use Rattle.strings.proofs.random_string.Tie as tie
-use Rattle.strings.proofs.random_string.Reads as reads
-use Rattle.strings.proofs.random_string.Lts as lts
-use Rattle.strings.proofs.byte_of.Reads as byte-of-reads
-use Rattle.strings.proofs.drawn.Reads as drawn-reads
 
 abbrev Inv-loop : tie.InvT-loop
 Inv-loop size before bytes₀ state₀ i₀ bytes state i = (i ≤ size) × (length bytes ≡ 40)

@@ -5,12 +5,6 @@ use Prim.Native.Nat.{_≤_, _-_}
 use borrow.Author.Needs.{needs}
 use Rattle.strings.proofs.random_strings.Statement.{statement}
 use Rattle.strings.proofs.random_strings.Tie as tie
-use Rattle.strings.proofs.random_strings.Reads as reads
-use Rattle.strings.proofs.random_strings.Lts as lts
-use Rattle.strings.proofs.drawn.Reads as drawn-reads
-use Rattle.strings.proofs.nothing.Reads as nothing-reads
-use Rattle.strings.proofs.random_string.Reads as random-string-reads
-use Rattle.strings.proofs.read_string.Reads as read-string-reads
 
 abbrev Inv-loop : tie.InvT-loop
 Inv-loop count seen₀ state₀ counter₀ seen state counter = counter ≤ count

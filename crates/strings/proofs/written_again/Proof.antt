@@ -2,9 +2,6 @@ use Prim.Native.Nat.{_≤_, _-_}
 use borrow.Author.Needs.{needs}
 use Rattle.strings.proofs.written_again.Statement.{statement}
 use Rattle.strings.proofs.written_again.Tie as tie
-use Rattle.strings.proofs.written_again.Reads as reads
-use Rattle.strings.proofs.written_again.Lts as lts
-use Rattle.record.proofs.write_step.Reads as write-step-reads
 
 abbrev Inv-loop : tie.InvT-loop
 Inv-loop bytes at next buf size i₀ i = i ≤ size

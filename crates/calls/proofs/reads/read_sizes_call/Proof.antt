@@ -1,10 +1,6 @@
 use borrow.Author.Needs.{needs}
 use Rattle.calls.proofs.reads.read_sizes_call.Statement.{statement}
 use Rattle.calls.proofs.reads.read_sizes_call.Tie as tie
-use Rattle.calls.proofs.reads.read_sizes_call.Reads as reads
-use Rattle.calls.proofs.reads.read_sizes_call.Lts as lts
-use Rattle.calls.proofs.reads.sizes_read.Reads as sizes-read-reads
-use Rattle.record.proofs.read_sizes.Reads as read-sizes-reads
 
 read-sizes-requires : tie.Need-read-sizes-requires
 read-sizes-requires c κs = search needs

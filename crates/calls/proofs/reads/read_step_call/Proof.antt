@@ -1,10 +1,6 @@
 use borrow.Author.Needs.{needs}
 use Rattle.calls.proofs.reads.read_step_call.Statement.{statement}
 use Rattle.calls.proofs.reads.read_step_call.Tie as tie
-use Rattle.calls.proofs.reads.read_step_call.Reads as reads
-use Rattle.calls.proofs.reads.read_step_call.Lts as lts
-use Rattle.calls.proofs.reads.step_read.Reads as step-read-reads
-use Rattle.record.proofs.read_step.Reads as read-step-reads
 
 read-step-requires : tie.Need-read-step-requires
 read-step-requires c κs = search needs

@@ -2,10 +2,6 @@ use Rattle.calls.specs.Calls.{sizesNumbers}
 use borrow.Author.Needs.{needs}
 use Rattle.calls.proofs.reads.sizes_read.Statement.{statement}
 use Rattle.calls.proofs.reads.sizes_read.Tie as tie
-use Rattle.calls.proofs.reads.sizes_read.Reads as reads
-use Rattle.calls.proofs.reads.sizes_read.Lts as lts
-use Rattle.codes.proofs.refusals.number.Reads as number-reads
-use Rattle.codes.proofs.refusals.place.Reads as place-reads
 
 enum-known-read : tie.Need-enum-known-read
 enum-known-read c = search needs

@@ -2,12 +2,6 @@ use Rattle.calls.specs.Calls.{stepNumbers}
 use borrow.Author.Needs.{needs}
 use Rattle.calls.proofs.reads.step_read.Statement.{statement}
 use Rattle.calls.proofs.reads.step_read.Tie as tie
-use Rattle.calls.proofs.reads.step_read.Reads as reads
-use Rattle.calls.proofs.reads.step_read.Lts as lts
-use Rattle.calls.proofs.reads.no_step.Reads as no-step-reads
-use Rattle.codes.proofs.refusals.number.Reads as number-reads
-use Rattle.codes.proofs.refusals.place.Reads as place-reads
-use Rattle.codes.proofs.rows.numbers_of.Reads as numbers-of-reads
 
 enum-known-read : tie.Need-enum-known-read
 enum-known-read c = search needs

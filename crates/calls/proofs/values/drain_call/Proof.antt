@@ -3,11 +3,6 @@ use Rattle.calls.specs.Calls.{drainCall, drainResult}
 use borrow.Author.Needs.{needs}
 use Rattle.calls.proofs.values.drain_call.Statement.{statement}
 use Rattle.calls.proofs.values.drain_call.Tie as tie
-use Rattle.calls.proofs.values.drain_call.Reads as reads
-use Rattle.calls.proofs.values.drain_call.Lts as lts
-use Rattle.calls.proofs.values.as_number.Reads as as-number-reads
-use Rattle.codes.proofs.refusals.given_of.Reads as given-of-reads
-use Rattle.drain.proofs.drain.Reads as drain-reads
 
 drain-requires : tie.Need-drain-requires
 drain-requires c κs = search needs

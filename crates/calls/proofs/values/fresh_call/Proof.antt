@@ -7,11 +7,6 @@ use Rattle.calls.specs.Calls.{freshCall, numbered}
 use borrow.Author.Needs.{needs}
 use Rattle.calls.proofs.values.fresh_call.Statement.{statement}
 use Rattle.calls.proofs.values.fresh_call.Tie as tie
-use Rattle.calls.proofs.values.fresh_call.Reads as reads
-use Rattle.calls.proofs.values.fresh_call.Lts as lts
-use Rattle.calls.proofs.values.in_numbers.Reads as in-numbers-reads
-use Rattle.codes.proofs.sizes.sizes_of.Reads as sizes-of-reads
-use Rattle.model.proofs.System.fresh.Reads as fresh-reads
 
 sizes-of-requires : tie.Need-sizes-of-requires
 sizes-of-requires c κs = search needs

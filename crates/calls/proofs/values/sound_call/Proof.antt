@@ -1,10 +1,6 @@
 use borrow.Author.Needs.{needs}
 use Rattle.calls.proofs.values.sound_call.Statement.{statement}
 use Rattle.calls.proofs.values.sound_call.Tie as tie
-use Rattle.calls.proofs.values.sound_call.Reads as reads
-use Rattle.calls.proofs.values.sound_call.Lts as lts
-use Rattle.calls.proofs.values.as_number.Reads as as-number-reads
-use Rattle.sound.proofs.is_sound.Reads as is-sound-reads
 
 is-sound-requires : tie.Need-is-sound-requires
 is-sound-requires c κs = search needs

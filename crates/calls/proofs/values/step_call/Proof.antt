@@ -13,13 +13,6 @@ use Rattle.calls.specs.Calls.{steppedBy, stepNamed, numbered}
 use borrow.Author.Needs.{needs}
 use Rattle.calls.proofs.values.step_call.Statement.{statement}
 use Rattle.calls.proofs.values.step_call.Tie as tie
-use Rattle.calls.proofs.values.step_call.Reads as reads
-use Rattle.calls.proofs.values.step_call.Lts as lts
-use Rattle.calls.proofs.values.in_numbers.Reads as in-numbers-reads
-use Rattle.calls.proofs.values.refused.Reads as refused-reads
-use Rattle.codes.proofs.kinds.step_of.Reads as step-of-reads
-use Rattle.sound.proofs.is_sound.Reads as is-sound-reads
-use Rattle.steps.proofs.step_sound.Reads as step-sound-reads
 
 -- of a state that is not sound the numbers are not looked at
 not-looked-at : (s : System) → (n : Named) → sound s ≡ false → steppedBy (given (Refused NotSound)) s ≡ stepNamed s n

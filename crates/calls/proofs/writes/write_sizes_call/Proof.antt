@@ -8,11 +8,6 @@ use Rattle.calls.specs.Calls.{writeSizesCall, wroteResult}
 use borrow.Author.Needs.{needs}
 use Rattle.calls.proofs.writes.write_sizes_call.Statement.{statement}
 use Rattle.calls.proofs.writes.write_sizes_call.Tie as tie
-use Rattle.calls.proofs.writes.write_sizes_call.Reads as reads
-use Rattle.calls.proofs.writes.write_sizes_call.Lts as lts
-use Rattle.calls.proofs.writes.wrote_given.Reads as wrote-given-reads
-use Rattle.codes.proofs.sizes.sizes_of.Reads as sizes-of-reads
-use Rattle.record.proofs.write_sizes.Reads as write-sizes-reads
 
 sizes-of-requires : tie.Need-sizes-of-requires
 sizes-of-requires c κs = search needs

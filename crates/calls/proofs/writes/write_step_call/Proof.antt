@@ -3,11 +3,6 @@ use Rattle.calls.specs.Calls.{writeNamed, wroteResult}
 use borrow.Author.Needs.{needs}
 use Rattle.calls.proofs.writes.write_step_call.Statement.{statement}
 use Rattle.calls.proofs.writes.write_step_call.Tie as tie
-use Rattle.calls.proofs.writes.write_step_call.Reads as reads
-use Rattle.calls.proofs.writes.write_step_call.Lts as lts
-use Rattle.calls.proofs.writes.wrote_given.Reads as wrote-given-reads
-use Rattle.codes.proofs.kinds.step_of.Reads as step-of-reads
-use Rattle.record.proofs.write_step.Reads as write-step-reads
 
 step-of-requires : tie.Need-step-of-requires
 step-of-requires c κs = search needs

@@ -2,10 +2,6 @@ use Rattle.calls.specs.Calls.{wroteNumbers}
 use borrow.Author.Needs.{needs}
 use Rattle.calls.proofs.writes.wrote_given.Statement.{statement}
 use Rattle.calls.proofs.writes.wrote_given.Tie as tie
-use Rattle.calls.proofs.writes.wrote_given.Reads as reads
-use Rattle.calls.proofs.writes.wrote_given.Lts as lts
-use Rattle.codes.proofs.refusals.number.Reads as number-reads
-use Rattle.codes.proofs.refusals.place.Reads as place-reads
 
 enum-known-w : tie.Need-enum-known-w
 enum-known-w c = search needs

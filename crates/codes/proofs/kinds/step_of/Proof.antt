@@ -3,10 +3,6 @@ use Rattle.codes.specs.Named.{namedBy}
 use borrow.Author.Needs.{needs}
 use Rattle.codes.proofs.kinds.step_of.Statement.{statement}
 use Rattle.codes.proofs.kinds.step_of.Tie as tie
-use Rattle.codes.proofs.kinds.step_of.Reads as reads
-use Rattle.codes.proofs.kinds.step_of.Lts as lts
-use Rattle.codes.proofs.kinds.instruction_of.Reads as instruction-of-reads
-use Rattle.codes.proofs.kinds.move_of.Reads as move-of-reads
 
 returns : tie.Need-returns
 unfolding namedBy

@@ -2,8 +2,6 @@ use Rattle.model.specs.Given.{answerGiven}
 use borrow.Author.Needs.{needs}
 use Rattle.codes.proofs.refusals.answer_given.Statement.{statement}
 use Rattle.codes.proofs.refusals.answer_given.Tie as tie
-use Rattle.codes.proofs.refusals.answer_given.Reads as reads
-use Rattle.codes.proofs.refusals.answer_given.Lts as lts
 
 enum-told : tie.Need-enum-told
 enum-told c = search needs

@@ -2,10 +2,6 @@ use Rattle.model.specs.Given.{given}
 use borrow.Author.Needs.{needs}
 use Rattle.codes.proofs.refusals.given_of.Statement.{statement}
 use Rattle.codes.proofs.refusals.given_of.Tie as tie
-use Rattle.codes.proofs.refusals.given_of.Reads as reads
-use Rattle.codes.proofs.refusals.given_of.Lts as lts
-use Rattle.codes.proofs.refusals.answer_given.Reads as answer-given-reads
-use Rattle.codes.proofs.refusals.refusal_given.Reads as refusal-given-reads
 
 enum-known-o : tie.Need-enum-known-o
 enum-known-o c = search needs

@@ -2,10 +2,6 @@ use Rattle.model.specs.Given.{refusalGiven}
 use borrow.Author.Needs.{needs}
 use Rattle.codes.proofs.refusals.refusal_given.Statement.{statement}
 use Rattle.codes.proofs.refusals.refusal_given.Tie as tie
-use Rattle.codes.proofs.refusals.refusal_given.Reads as reads
-use Rattle.codes.proofs.refusals.refusal_given.Lts as lts
-use Rattle.codes.proofs.refusals.number.Reads as number-reads
-use Rattle.codes.proofs.refusals.place.Reads as place-reads
 
 number-requires : tie.Need-number-requires
 number-requires c κs = search needs
