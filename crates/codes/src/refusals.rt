@@ -1,6 +1,7 @@
 // Refusals and outcomes as numbers.
 ghost use mathlib.Core.Path.{_≡_};
 ghost use Rattle.model.specs.Given.{numberOf, placeGiven, answerGiven, refusalGiven, given};
+ghost use Rattle.model.specs.Steps.{isDone};
 use model::Answer;
 use model::Given;
 use model::MOST_BYTES;
@@ -90,4 +91,14 @@ pub fn given_of(o: Outcome) -> Given
         Outcome::Done(answer) => answer_given(answer),
         Outcome::Refused(why) => refusal_given(why),
     }
+}
+
+// Whether it was done: no refusal.
+pub fn is_done(o: Outcome) -> bool
+    ensures { λ r. ⌜ r ≡ isDone o ⌝ }
+{
+    let Outcome::Done(_) = o else {
+        return false;
+    };
+    true
 }

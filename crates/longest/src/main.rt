@@ -1,5 +1,6 @@
 // The longest drain: takes the steps of the record on standard input from fresh, and drains the state that they lead to, with several budgets and buffers.
 ghost use Prim.Native.Nat.{_≤_};
+use codes::refusals::is_done;
 use drain::drain;
 use io::print_decimal;
 use io::write_all;
@@ -18,13 +19,6 @@ struct Reached {
     system: System,
     steps: u64,
     accepted: u64,
-}
-
-fn is_done(o: Outcome) -> bool {
-    let Outcome::Done(_) = o else {
-        return false;
-    };
-    true
 }
 
 // Takes the steps that stand in a record from an offset on, to its end or to a fault. It comes to an end: each step read ends behind its start (`ReadOn`).

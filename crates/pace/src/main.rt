@@ -2,9 +2,9 @@
 ghost use mathlib.Core.Path.{_≡_};
 ghost use mathlib.Core.Bool.{true};
 ghost use Rattle.model.specs.Sound.{sound};
+use codes::refusals::is_done;
 use io::print_decimal;
 use io::write_all;
-use model::Outcome;
 use model::ReadSizes;
 use model::ReadStep;
 use model::System;
@@ -15,13 +15,6 @@ use steps::step_sound;
 
 // How often the record is taken.
 const ROUNDS: u64 = 50;
-
-fn is_done(o: Outcome) -> bool {
-    let Outcome::Done(_) = o else {
-        return false;
-    };
-    true
-}
 
 // Takes the steps that stand in a record from an offset on, to its end or to a fault, and gives how many were accepted. It looks at no soundness: each step leaves a sound state.
 fn take_steps(s: System, bytes: &[u8], start: usize) -> u64

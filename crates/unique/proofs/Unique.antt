@@ -33,6 +33,7 @@ use Rattle.codes.proofs.kinds.step_of as step-of
 use Rattle.codes.proofs.refusals.number as number
 use Rattle.codes.proofs.refusals.place as place
 use Rattle.codes.proofs.refusals.given_of as given-of
+use Rattle.codes.proofs.refusals.is_done as is-done
 use Rattle.codes.proofs.rows.numbers_of as numbers-of
 use Rattle.codes.proofs.sizes.sizes_of as sizes-of
 use Rattle.codes.proofs.sizes.sizes_row as sizes-row
@@ -173,6 +174,9 @@ module _ {M : Type 1} (𝓤 : URA M) (H : Heap 𝓤) (A : Atoms 𝓤) (mem : Mem
 
   given-of-only : Only given-of.ended (given-of.clauses 𝓤 H A mem run) (λ κs. nothing)
   given-of-only κs a g r r′ e e′ known = only same nothing
+
+  is-done-only : Only is-done.ended (is-done.clauses 𝓤 H A mem run) (λ κs. nothing)
+  is-done-only κs a g r r′ e e′ known = only same nothing
 
   numbers-of-only : Only numbers-of.ended (numbers-of.clauses 𝓤 H A mem run) (λ κs. nothing)
   numbers-of-only κs a g r r′ e e′ known = only same nothing
