@@ -73,19 +73,19 @@ pub record DrainBy : Type 0 where
 abbrev pub drainedBy : DrainGiven → System → List ℕ → DrainBy
 drainedBy g s buf = record { given = g; system = s; buffer = buf }
 
-abbrev pub drainNumbers : Drained → DrainGiven
-drainNumbers d = record { number = given (d .outcome) .number; quiet = flag (d .quiet); count = d .count; length = d .length }
+abbrev pub drainGiven : Drained → DrainGiven
+drainGiven d = record { number = given (d .outcome) .number; quiet = flag (d .quiet); count = d .count; length = d .length }
 
 abbrev pub drainResult : Drain → DrainBy
-drainResult d = drainedBy (drainNumbers (d .result)) (d .result .system) (d .buffer)
+drainResult d = drainedBy (drainGiven (d .result)) (d .result .system) (d .buffer)
 
 unfoldable pub drainCall : System → ℕ → List ℕ → DrainBy
 drainCall s budget buf = drainResult (drainOf s budget buf)
 
 -- READING
 
-abbrev pub sizesGiven : Sizes → ℕ → SizesGiven
-sizesGiven z next = record {
+abbrev pub sizesRead : Sizes → ℕ → SizesGiven
+sizesRead z next = record {
   number = 0;
   place = 0;
   next = next;
@@ -97,8 +97,8 @@ sizesGiven z next = record {
   stall = z .stall;
 }
 
-abbrev pub noSizesGiven : Refusal → SizesGiven
-noSizesGiven r = record {
+abbrev pub noSizesRead : Refusal → SizesGiven
+noSizesRead r = record {
   number = numberOf r;
   place = placeGiven r;
   next = 0;
@@ -111,15 +111,15 @@ noSizesGiven r = record {
 }
 
 unfoldable pub sizesNumbers : ReadSizes → SizesGiven
-sizesNumbers (Sized z next) = sizesGiven z next
-sizesNumbers (NoSizes r) = noSizesGiven r
+sizesNumbers (Sized z next) = sizesRead z next
+sizesNumbers (NoSizes r) = noSizesRead r
 
 abbrev pub readSizesCall : List ℕ → SizesGiven
 readSizesCall bs = sizesNumbers (readSizes bs)
 
 -- the numbers of a step as they stand in a record; what is not there is 0
-abbrev pub stepGiven : ℕ → ℕ → ℕ → ℕ → List ℕ → StepGiven
-stepGiven number end place next ns = record {
+abbrev pub stepRead : ℕ → ℕ → ℕ → ℕ → List ℕ → StepGiven
+stepRead number end place next ns = record {
   number = number;
   end = end;
   place = place;
@@ -133,9 +133,9 @@ stepGiven number end place next ns = record {
 }
 
 unfoldable pub stepNumbers : ReadStep → StepGiven
-stepNumbers (One x next) = stepGiven 0 0 0 next (numbersOf x)
-stepNumbers End = stepGiven 0 1 0 0 []
-stepNumbers (NoStep r) = stepGiven (numberOf r) 0 (placeGiven r) 0 []
+stepNumbers (One x next) = stepRead 0 0 0 next (numbersOf x)
+stepNumbers End = stepRead 0 1 0 0 []
+stepNumbers (NoStep r) = stepRead (numberOf r) 0 (placeGiven r) 0 []
 
 abbrev pub readStepCall : List ℕ → ℕ → StepGiven
 readStepCall bs at = stepNumbers (readStep bs at)

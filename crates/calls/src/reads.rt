@@ -1,7 +1,7 @@
 // What reading gives back, as numbers.
 ghost use mathlib.Core.Path.{_≡_};
 ghost use mathlib.Core.List.{[]};
-ghost use Rattle.calls.specs.Calls.{sizesNumbers, readSizesCall, stepGiven, stepNumbers, readStepCall};
+ghost use Rattle.calls.specs.Calls.{sizesNumbers, readSizesCall, stepRead, stepNumbers, readStepCall};
 use crate::SizesGiven;
 use crate::StepGiven;
 use codes::refusals::number;
@@ -43,7 +43,7 @@ fn sizes_read(read: ReadSizes) -> SizesGiven
 
 // No step: the record's end, or why there is none.
 fn no_step(number: u32, end: u32, place: usize) -> StepGiven
-    ensures { λ r. ⌜ r ≡ stepGiven number end place 0 [] ⌝ }
+    ensures { λ r. ⌜ r ≡ stepRead number end place 0 [] ⌝ }
 {
     StepGiven {
         number: number,
