@@ -63,6 +63,8 @@ fn main() {
         return;
     }
     let accepted = take_rounds(s, &bytes[0..size], past);
+    print_decimal(1, ROUNDS);
+    write_all(1, b" rounds of ");
     print_decimal(1, accepted);
     write_all(1, b" steps accepted\n");
 }

@@ -64,6 +64,15 @@ slice-aggregate-write-all c = search needs
 write-all-requires : tie.Need-write-all-requires
 write-all-requires c κs = search needs
 
+print-decimal-requires-2 : tie.Need-print-decimal-requires-2
+print-decimal-requires-2 c κs = search needs
+
+slice-aggregate-write-all-2 : tie.Need-slice-aggregate-write-all-2
+slice-aggregate-write-all-2 c = search needs
+
+write-all-requires-2 : tie.Need-write-all-requires-2
+write-all-requires-2 c κs = search needs
+
 returns-3 : tie.Need-returns-3
 returns-3 c = search needs
 
@@ -91,4 +100,7 @@ main-spec =
     print-decimal-requires
     slice-aggregate-write-all
     write-all-requires
+    print-decimal-requires-2
+    slice-aggregate-write-all-2
+    write-all-requires-2
     returns-3)
