@@ -1,8 +1,8 @@
 -- What is promised: the three demands, over the definitions of document 01. Each statement's proof stands in proofs/Demands.antt.
 -- 1. Every operation ends with an answer; what is refused is refused by number, and then nothing changes.
 -- 2. Each step gives the state and the answer of the rules, and every list of steps has exactly one record.
--- 3. At most 13k + 7r steps are accepted; quiet means that no message is left and that each accepted instruction has been answered exactly once,
---    at its site and under its tag.
+-- 3. The accepted steps other than issues are at most 13k + 7r; quiet means that no message is left and that each accepted instruction has been
+--    answered exactly once, at its site and under its tag.
 use mathlib.Core.Path.{_≡_}
 use mathlib.Core.Logic.{_↔_, _⊎_}
 use mathlib.Core.List.{List, [], _++_, List·Memᴰ}
