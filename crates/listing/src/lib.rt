@@ -6,7 +6,7 @@ ghost use Prim.Native.Nat.{_+_, _≤_};
 ghost use lib.ListN.{length, take};
 ghost use Rattle.listing.specs.Room.{mostLine};
 ghost use Rattle.model.specs.Record.{written};
-ghost use Rattle.model.specs.Replay.{text, decimal, nameOf, answerText, outcomeText, sizesLine, stepLine, leftLine, recordLine, linedAt};
+ghost use Rattle.model.specs.Replay.{text, decimal, word, nameOf, answerText, outcomeText, sizesLine, stepLine, leftLine, recordLine, linedAt};
 use codes::refusals::number;
 use codes::refusals::place;
 use model::Answer;
@@ -33,6 +33,16 @@ fn add_word(line: &mut [u8], at: usize, word: &[u8], n: u64) -> usize
     put_decimal(line, past, n)
 }
 
+// What both answers begin with: `answer`, site and tag. At most 49 bytes: ` answer `, two numbers of twenty digits, a space.
+fn begin_answer(line: &mut [u8], at: usize, site: u32, tag: u32) -> usize
+    requires { ⌜ at + 49 ≤ length (now line) ⌝ }
+    ensures { λ r. ⌜ take r (now (line .exit)) ≡ take at (now (line .entry)) ++ word " answer " site ++ word " " tag ⌝ }
+    ensures room { λ r. ⌜ r ≤ at + 49 ⌝ }
+{
+    let past = add_word(line, at, b" answer ", site as u64);
+    add_word(line, past, b" ", tag as u64)
+}
+
 // For an answer: `answer`, site, tag, then the value or `ack`. At most 70 bytes: ` answer `, three numbers of twenty digits, two spaces.
 fn add_answer(line: &mut [u8], at: usize, a: Answer) -> usize
     requires { ⌜ at + 70 ≤ length (now line) ⌝ }
@@ -42,13 +52,11 @@ fn add_answer(line: &mut [u8], at: usize, a: Answer) -> usize
     match a {
         Answer::Nothing => at,
         Answer::Loaded { site, tag, value } => {
-            let past = add_word(line, at, b" answer ", site as u64);
-            let next = add_word(line, past, b" ", tag as u64);
+            let next = begin_answer(line, at, site, tag);
             add_word(line, next, b" ", value as u64)
         }
         Answer::Acknowledged { site, tag } => {
-            let past = add_word(line, at, b" answer ", site as u64);
-            let next = add_word(line, past, b" ", tag as u64);
+            let next = begin_answer(line, at, site, tag);
             put_text(line, next, b" ack")
         }
     }

@@ -16,6 +16,9 @@ enum-told c = search needs
 enum-known-a : tie.Need-enum-known-a
 enum-known-a c = search needs
 
+begin-answer-requires : tie.Need-begin-answer-requires
+begin-answer-requires c κs = search needs
+
 slice-aggregate-add-word : tie.Need-slice-aggregate-add-word
 slice-aggregate-add-word c = search needs
 
@@ -25,44 +28,11 @@ cast-add-word c = search needs
 add-word-requires : tie.Need-add-word-requires
 add-word-requires c κs = search needs
 
-slice-aggregate-add-word-2 : tie.Need-slice-aggregate-add-word-2
-slice-aggregate-add-word-2 c = search needs
-
-cast-add-word-2 : tie.Need-cast-add-word-2
-cast-add-word-2 c = search needs
-
-add-word-requires-2 : tie.Need-add-word-requires-2
-add-word-requires-2 c κs = search needs
-
-slice-aggregate-add-word-3 : tie.Need-slice-aggregate-add-word-3
-slice-aggregate-add-word-3 c = search needs
-
-cast-add-word-3 : tie.Need-cast-add-word-3
-cast-add-word-3 c = search needs
-
-add-word-requires-3 : tie.Need-add-word-requires-3
-add-word-requires-3 c κs = search needs
-
 enum-known-a-2 : tie.Need-enum-known-a-2
 enum-known-a-2 c = search needs
 
-slice-aggregate-add-word-4 : tie.Need-slice-aggregate-add-word-4
-slice-aggregate-add-word-4 c = search needs
-
-cast-add-word-4 : tie.Need-cast-add-word-4
-cast-add-word-4 c = search needs
-
-add-word-requires-4 : tie.Need-add-word-requires-4
-add-word-requires-4 c κs = search needs
-
-slice-aggregate-add-word-5 : tie.Need-slice-aggregate-add-word-5
-slice-aggregate-add-word-5 c = search needs
-
-cast-add-word-5 : tie.Need-cast-add-word-5
-cast-add-word-5 c = search needs
-
-add-word-requires-5 : tie.Need-add-word-requires-5
-add-word-requires-5 c κs = search needs
+begin-answer-requires-2 : tie.Need-begin-answer-requires-2
+begin-answer-requires-2 c κs = search needs
 
 slice-aggregate-put-text : tie.Need-slice-aggregate-put-text
 slice-aggregate-put-text c = search needs
@@ -82,20 +52,16 @@ same-length c = search needs
 returns-2 : tie.Need-returns-2
 unfolding answerText text
 returns-2 c =
-    let args = c .before .before .before .before .before .before .before .before .before .before .before .before .before .before .before .before .before .before .before .args in
-    let a = c .before .before .before .before .before .before .before .before .before .before .before .before .before .before .before .before .a in
-    let add-word = c .before .before .before .before .before .before .before .before .before .before .before .before .add-word in
-    let add-word2 = c .before .before .before .before .before .before .before .add-word2 in
-    let add-word3 = c .before .before .add-word3 in
+    let args = c .before .before .before .before .before .before .before .before .before .before .before .before .before .args in
+    let a = c .before .before .before .before .before .before .before .before .before .before .a in
+    let begin-answer = c .before .before .before .before .before .before .before .begin-answer in
+    let add-word = c .before .before .add-word in
     let i = a .given .0 .0 in
     let t = a .given .0 .1 .0 in
     let v = a .given .0 .1 .1 .0 in
     let l = take (args .at) (args .line .now) in (
-      rw (a .given .1) (add-word3 .ensures .0 ∙ ap (λ (m : List ℕ). m ++ word " " v) (add-word2 .ensures .0 ∙
-          ap (λ (m : List ℕ). m ++ word " " t) (add-word .ensures .0)) ∙
-          three-behind l (word " answer " i) (word " " t) (word " " v)),
-      omega
-          (arith, add-word .ensures .1, add-word2 .ensures .1, add-word3 .ensures .1),
+      rw (a .given .1) (add-word .ensures .0 ∙ ap (λ (m : List ℕ). m ++ word " " v) (begin-answer .ensures .0) ∙ three-behind l (word " answer " i) (word " " t) (word " " v)),
+      omega (arith, begin-answer .ensures .1, add-word .ensures .1),
     )
 
 same-length-2 : tie.Need-same-length-2
@@ -104,21 +70,17 @@ same-length-2 c = search needs
 returns-3 : tie.Need-returns-3
 unfolding answerText text
 returns-3 c =
-    let args = c .before .before .before .before .before .before .before .before .before .before .before .before .before .before .before .before .before .before .before .args in
-    let pre = c .before .before .before .before .before .before .before .before .before .before .before .before .before .before .before .before .before .before .before .pre in
-    let a2 = c .before .before .before .before .before .before .before .before .before .before .before .before .before .before .before .before .a2 in
-    let add-word4 = c .before .before .before .before .before .before .before .before .before .before .before .before .add-word4 in
-    let add-word5 = c .before .before .before .before .before .before .before .add-word5 in
+    let args = c .before .before .before .before .before .before .before .before .before .before .before .before .before .args in
+    let pre = c .before .before .before .before .before .before .before .before .before .before .before .before .before .pre in
+    let a2 = c .before .before .before .before .before .before .before .before .before .before .a2 in
+    let begin-answer = c .before .before .before .before .before .before .before .begin-answer2 in
     let put-text = c .before .before .put-text in
     let i = a2 .given .0 .0 in
     let t = a2 .given .0 .1 .0 in
     let l = take (args .at) (args .line .now) in
-    let p = put-behind (32 ∷ 97 ∷ 99 ∷ 107 ∷ []) (add-word5 .last .0) _ (add-word5 .result) _ (omega
-    (arith, pre, add-word4 .ensures .1, add-word5 .ensures .1, add-word4 .kept .0, add-word5 .kept .0)) (put-text .ensures) in (
-      rw (a2 .given .1) (p .1 ∙ ap (λ (m : List ℕ). m ++ text " ack") (add-word5 .ensures .0 ∙
-          ap (λ (m : List ℕ). m ++ word " " t) (add-word4 .ensures .0)) ∙
-          three-behind l (word " answer " i) (word " " t) (text " ack")),
-      omega (arith, p .0, add-word4 .ensures .1, add-word5 .ensures .1),
+    let p = put-behind (32 ∷ 97 ∷ 99 ∷ 107 ∷ []) (begin-answer .last .0) _ (begin-answer .result) _ (omega (arith, pre, begin-answer .ensures .1, begin-answer .kept .0)) (put-text .ensures) in (
+      rw (a2 .given .1) (p .1 ∙ ap (λ (m : List ℕ). m ++ text " ack") (begin-answer .ensures .0) ∙ three-behind l (word " answer " i) (word " " t) (text " ack")),
+      omega (arith, p .0, begin-answer .ensures .1),
     )
 
 pub add-answer-spec : {M : Type 1} → statement M
@@ -127,22 +89,12 @@ add-answer-spec =
     (tie.spec
     enum-told
     enum-known-a
+    begin-answer-requires
     slice-aggregate-add-word
     cast-add-word
     add-word-requires
-    slice-aggregate-add-word-2
-    cast-add-word-2
-    add-word-requires-2
-    slice-aggregate-add-word-3
-    cast-add-word-3
-    add-word-requires-3
     enum-known-a-2
-    slice-aggregate-add-word-4
-    cast-add-word-4
-    add-word-requires-4
-    slice-aggregate-add-word-5
-    cast-add-word-5
-    add-word-requires-5
+    begin-answer-requires-2
     slice-aggregate-put-text
     put-text-requires
     returns
