@@ -1,5 +1,5 @@
 -- The proof of each promise of specs/Promises.antt.
-use mathlib.Core.Path.{_≡_, refl}
+use mathlib.Core.Path.{_≡_, refl, sym, _∙_}
 use mathlib.Core.Bool.{false, not, Bool·not-not}
 use Prim.Native.Nat.{ℕ, _*_}
 use lib.Dec.{T}
@@ -16,7 +16,7 @@ use Rattle.model.specs.Parts.{siteAt}
 use Rattle.model.specs.Sound.{request, reply, ofSite, messageFits, siteQueueFits, sound}
 use Rattle.model.specs.Steps.{stepOf, stepped, isDone}
 use Rattle.model.specs.Drain.{accepts, candidatesOf, quiet, drained, drainOf}
-use Rattle.promises.specs.Promises.{refuses, run, FreshSound, StepSound, RunSound, RefusedStays, DoneGiven, RefusalGiven, RunBound, QuietMeans, QuietEmpty, Alternating, OneOutstanding, AllAnswered, MovesMost, DrainQuiet, DrainFits, DrainRead, DrainKeeps, ChoicesMost, Roomy, RunRoomy, RecordBytes, RecordRead, RecordOnly, ReadOnce, ReadOn, ReadAnswered, SizesFault, ReadFault, RecordWritten, WriteKeeps, ListingWhole}
+use Rattle.promises.specs.Promises.{refuses, run, FreshSound, StepSound, RunSound, RefusedStays, DoneGiven, RefusalGiven, RunBound, QuietMeans, QuietEmpty, Alternating, OneOutstanding, AllAnswered, MovesMost, DrainQuiet, DrainFits, DrainRead, DrainTaken, DrainKeeps, ChoicesMost, Roomy, RunRoomy, RecordBytes, RecordRead, RecordOnly, ReadOnce, ReadOn, ReadAnswered, SizesFault, ReadFault, RecordWritten, WriteKeeps, ListingWhole}
 use Rattle.promises.specs.Runs.{events}
 use Rattle.promises.proofs.Given.{done-by-number, refusal-unanswered}
 use Rattle.promises.proofs.Queues.{queue-most}
@@ -133,6 +133,9 @@ drain-fits s t b = drained-bytes b s (opened s t)
 
 pub drain-read : DrainRead
 drain-read = drained-read
+
+pub drain-taken : DrainTaken
+drain-taken s t b buf k = drain-read s t b buf k .taken ∙ sym (drain-read s t b buf k .counted)
 
 pub drain-keeps : DrainKeeps
 drain-keeps = drained-kept

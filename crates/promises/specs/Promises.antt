@@ -146,6 +146,12 @@ DrainRead =
     (s : System) → T (sound s) → (budget : ℕ) (buf : List ℕ) → 2 * min budget mostDrain ≤ length buf →
     DrainedBy s (drained budget s .steps) (drainOf s budget buf)
 
+-- Every step that it wrote was accepted.
+abbrev pub DrainTaken : Type 0
+DrainTaken =
+    (s : System) → T (sound s) → (budget : ℕ) (buf : List ℕ) → 2 * min budget mostDrain ≤ length buf →
+    accepted isMove s (drained budget s .steps) ≡ length (drained budget s .steps)
+
 -- what a drain leaves alone: the buffer's length; where it is refused, the state and every byte; else the bytes past the length
 pub record DrainKept (s : System) (buf : List ℕ) (d : Drain) : Type 0 where
   pub length-kept : length (d .buffer) ≡ length buf
