@@ -27,7 +27,9 @@ issue-hold = refl ▸ refl ▸ refl ▸ refl ▸ refl ▸ refl ▸ refl ▸ refl
 
 handling-hold : EachHolds handlingSamples
 unfolding holds handlingSamples
-handling-hold = refl ▸ refl ▸ refl ▸ refl ▸ refl ▸ refl ▸ refl ▸ refl ▸ refl ▸ refl ▸ end
+handling-hold =
+    refl ▸ refl ▸ refl ▸ refl ▸ refl ▸ refl ▸ refl ▸ refl ▸ refl ▸ refl ▸
+    refl ▸ end
 
 take-hold : EachHolds takeSamples
 unfolding holds takeSamples

@@ -164,6 +164,11 @@ handlingSamples =
     Issue 0 4 (Loadl 6) ⇒ no 7 ∷ Issue 0 4 (Storel 6 5) ⇒ no 7 ∷ Issue 0 4 (Commit 2) ⇒ no 7 ∷ Issue 0 4 (Reconcile 3) ⇒ no 7 ∷
     Issue 0 4 (Loadl 1) ⇒ value 0 4 0 ∷ Issue 0 4 (Storel 1 5) ⇒ ack 0 4 ∷ Issue 0 4 (FenceRr 0 0) ⇒ ack 0 4 ∷ Issue 0 4 (Commit 6) ⇒ ack 0 4 ∷
     Issue 0 4 (Commit 0) ⇒ ack 0 4 ∷ Issue 0 4 (Commit 1) ⇒ no 7 ∷ Issue 0 4 (Reconcile 1) ⇒ ack 0 4 ∷ Issue 0 4 (Reconcile 0) ⇒ no 7 ∷ []) ∷
+    -- Every word of a line counts, the fourth too.
+    run (sized 1 4 2 1 1 1) (
+    Issue 0 1 (Storel 3 9) ⇒ done ∷ trip 0 (ack 0 1) ∷ Issue 0 2 (Reconcile 0) ⇒ done ∷ shows (going 0) (1 ∷ 0 ∷ 0 ∷ []) ∷ trip 0 (ack 0 2) ∷
+    shows (memoryLine 0) (0 ∷ 0 ∷ 0 ∷ 9 ∷ []) ∷ Issue 0 3 (Storel 3 8) ⇒ done ∷ trip 0 (ack 0 3) ∷ Issue 0 4 (Loadl 4) ⇒ done ∷ trip 0 (value 0 4 0) ∷
+    shows (going 0) (1 ∷ 0 ∷ 0 ∷ []) ∷ []) ∷
     []
 
 -- TAKE
