@@ -5,8 +5,8 @@ ghost use mathlib.Core.List.{_++_};
 ghost use Prim.Native.Nat.{_+_, _≤_};
 ghost use lib.ListN.{length, take};
 ghost use Rattle.listing.specs.Room.{mostLine};
-ghost use Rattle.model.specs.Record.{written};
-ghost use Rattle.model.specs.Replay.{text, decimal, word, nameOf, answerText, outcomeText, sizesLine, stepLine, leftLine, recordLine, linedAt};
+ghost use Rattle.model.specs.Record.{written, putAt};
+ghost use Rattle.model.specs.Replay.{text, decimal, word, nameOf, answerText, outcomeText, sizesLine, stepLine, leftLine, recordLine};
 use codes::refusals::number;
 use codes::refusals::place;
 use model::Answer;
@@ -92,7 +92,7 @@ fn add_outcome(line: &mut [u8], at: usize, o: Outcome) -> usize
 // Writes a line with its newline at an offset of the buffer; nothing is written where it has no room.
 fn put_line(buf: &mut [u8], at: usize, line: &mut [u8], end: usize) -> Wrote
     requires { ⌜ end + 1 ≤ length (now line) ⌝ }
-    ensures { λ r. ⌜ written r (now (buf .exit)) ≡ linedAt (take end (now (line .entry)) ++ text "\n") (now (buf .entry)) at ⌝ }
+    ensures { λ r. ⌜ written r (now (buf .exit)) ≡ putAt (take end (now (line .entry)) ++ text "\n") (now (buf .entry)) at ⌝ }
 {
     let size = put_text(line, end, b"\n");
     if fits(buf.len(), at, size) {
@@ -104,7 +104,7 @@ fn put_line(buf: &mut [u8], at: usize, line: &mut [u8], end: usize) -> Wrote
 
 // The line of sizes.
 pub fn put_sizes(buf: &mut [u8], at: usize, z: Sizes) -> Wrote
-    ensures { λ r. ⌜ written r (now (buf .exit)) ≡ linedAt (sizesLine z) (now (buf .entry)) at ⌝ }
+    ensures { λ r. ⌜ written r (now (buf .exit)) ≡ putAt (sizesLine z) (now (buf .entry)) at ⌝ }
     ensures short { λ _. ⌜ length (sizesLine z) ≤ mostLine ⌝ }
 {
     let mut line = [0u8; MOST_LINE];
@@ -119,7 +119,7 @@ pub fn put_sizes(buf: &mut [u8], at: usize, z: Sizes) -> Wrote
 
 // The line of a step: count, name, number given back, and the answer.
 pub fn put_step(buf: &mut [u8], at: usize, n: u64, x: Step, o: Outcome) -> Wrote
-    ensures { λ r. ⌜ written r (now (buf .exit)) ≡ linedAt (stepLine n x o) (now (buf .entry)) at ⌝ }
+    ensures { λ r. ⌜ written r (now (buf .exit)) ≡ putAt (stepLine n x o) (now (buf .entry)) at ⌝ }
     ensures short { λ _. ⌜ length (stepLine n x o) ≤ mostLine ⌝ }
 {
     let mut line = [0u8; MOST_LINE];
@@ -130,7 +130,7 @@ pub fn put_step(buf: &mut [u8], at: usize, n: u64, x: Step, o: Outcome) -> Wrote
 
 // The line `left`: the number of outstanding instructions and the number of messages.
 pub fn put_left(buf: &mut [u8], at: usize, outstanding: u64, messages: u64) -> Wrote
-    ensures { λ r. ⌜ written r (now (buf .exit)) ≡ linedAt (leftLine outstanding messages) (now (buf .entry)) at ⌝ }
+    ensures { λ r. ⌜ written r (now (buf .exit)) ≡ putAt (leftLine outstanding messages) (now (buf .entry)) at ⌝ }
     ensures short { λ _. ⌜ length (leftLine outstanding messages) ≤ mostLine ⌝ }
 {
     let mut line = [0u8; MOST_LINE];
@@ -141,7 +141,7 @@ pub fn put_left(buf: &mut [u8], at: usize, outstanding: u64, messages: u64) -> W
 
 // The line `record` of a faulty record: its number and its place.
 pub fn put_record(buf: &mut [u8], at: usize, why: Refusal) -> Wrote
-    ensures { λ r. ⌜ written r (now (buf .exit)) ≡ linedAt (recordLine why) (now (buf .entry)) at ⌝ }
+    ensures { λ r. ⌜ written r (now (buf .exit)) ≡ putAt (recordLine why) (now (buf .entry)) at ⌝ }
     ensures short { λ _. ⌜ length (recordLine why) ≤ mostLine ⌝ }
 {
     let mut line = [0u8; MOST_LINE];

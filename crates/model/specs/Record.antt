@@ -196,14 +196,14 @@ abbrev pub pastOf : Wrote → ℕ
 pastOf (Past end) = end
 pastOf (NotWritten why) = 0
 
--- some bytes at an offset: 13 where the record would end past its most, 11 where the buffer ends before it
-unfoldable pub writtenTo : ℕ → List ℕ → List ℕ → ℕ → Written
-writtenTo end new buf at =
-    cond (leb end mostBytes) (cond (leb end (length buf)) (written (Past end) (sets buf at new)) (written (NotWritten BufferShort) buf))
-    (written (NotWritten RecordLong) buf)
+-- some bytes at an offset of a buffer, a record's or a listing's: 11 where the buffer is shorter than the bytes to be written
+unfoldable pub putAt : List ℕ → List ℕ → ℕ → Written
+putAt new buf at =
+    cond (leb (at + length new) (length buf)) (written (Past (at + length new)) (sets buf at new)) (written (NotWritten BufferShort) buf)
 
-abbrev pub writtenAt : List ℕ → List ℕ → ℕ → Written
-writtenAt new buf at = writtenTo (at + length new) new buf at
+-- in a record: 13 before that, where it would end past its most
+unfoldable pub writtenAt : List ℕ → List ℕ → ℕ → Written
+writtenAt new buf at = cond (leb (at + length new) mostBytes) (putAt new buf at) (written (NotWritten RecordLong) buf)
 
 -- The writer looks at 12, then 13, then 11.
 unfoldable pub writeSizes : Sizes → List ℕ → Written

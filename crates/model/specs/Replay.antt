@@ -6,7 +6,6 @@ use Prim.Native.Char.{code}
 use Prim.Native.String.{String, [] as noText, _∷_ as _then_}
 use lib.Dec.{leb, ltb}
 use lib.ListN.{length}
-use lib.Seq.{sets}
 use Rattle.model.specs.declared.Sizes.{Sizes}
 use Rattle.model.specs.declared.System.{System}
 use Rattle.model.specs.declared.Step.{Step}
@@ -14,17 +13,15 @@ use Rattle.model.specs.declared.Step.the-variants.{Issue, Retry, Send, A
 use Rattle.model.specs.declared.Answer.{Answer}
 use Rattle.model.specs.declared.Answer.the-variants.{Nothing, Loaded, Acknowledged}
 use Rattle.model.specs.declared.Refusal.{Refusal}
-use Rattle.model.specs.declared.Refusal.the-variants.{BufferShort}
 use Rattle.model.specs.declared.Outcome.{Outcome}
 use Rattle.model.specs.declared.Outcome.the-variants.{Done, Refused}
 use Rattle.model.specs.declared.After.{After}
 use Rattle.model.specs.declared.ReadSizes.the-variants.{Sized, NoSizes}
 use Rattle.model.specs.declared.ReadStep.the-variants.{One, End, NoStep}
-use Rattle.model.specs.declared.Wrote.the-variants.{Past, NotWritten}
 use Rattle.model.specs.Given.{numberOf, placeGiven}
 use Rattle.model.specs.Fresh.{blank}
 use Rattle.model.specs.Left.{outstandingLeft, messagesLeft}
-use Rattle.model.specs.Record.{readSizes, readStep, Written, written}
+use Rattle.model.specs.Record.{readSizes, readStep}
 use Rattle.model.specs.Steps.{stepped}
 
 -- WORDS AND NUMBERS, IN ASCII
@@ -116,10 +113,3 @@ listedAt bs at n s = listedFrom (suc (length bs - at)) bs at n s
 -- with 13, with 12 or with a fault in the sizes that line is the only one
 unfoldable pub listing : List ℕ → List ℕ
 listing bs = elim (readSizes bs) [ Sized z past ↦ sizesLine z ++ listedAt bs past 1 (blank z) | NoSizes why ↦ recordLine why ]
-
--- WRITING A LINE
-
--- a line at an offset of a buffer: 11 where the buffer is shorter than the bytes to be written
-unfoldable pub linedAt : List ℕ → List ℕ → ℕ → Written
-linedAt new buf at =
-    cond (leb (at + length new) (length buf)) (written (Past (at + length new)) (sets buf at new)) (written (NotWritten BufferShort) buf)

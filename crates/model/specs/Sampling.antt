@@ -34,7 +34,7 @@ use Rattle.model.specs.Left.{outstandingLeft, messagesLeft, outstandingA
 use Rattle.model.specs.Given.{numberOf, placeGiven, given, answerGiven, refusalGiven}
 use Rattle.model.specs.Record.{Written, mostNumber, numbersOf, recordOf, readSizes, readStep, writeSizes, writeStep, bytesOfAll, operands}
 use Rattle.model.specs.Record.{stepsBytes, consed, readNumbers, sizesFrom, issueLimits, instructionOf, issueFrom, readIssue, moveOf, readMove, readFields, stepAt}
-use Rattle.model.specs.Record.{readStepOf, writtenTo, sixOf}
+use Rattle.model.specs.Record.{readStepOf, putAt, writtenAt, sixOf}
 use Rattle.model.specs.Replay.{text, digits, nameOf, answerText, outcomeText, listedFrom, listing}
 use Rattle.model.specs.Drain.{Drain, drainOf, candidates, quiet, stepsOfKind, tries, firstOf, drained}
 use Rattle.lists.specs.Places.{allBelow, sumBelow, upFrom, fits, array, weigh, unlike, removed, firstAt, count, each, some, allOf}
@@ -227,7 +227,7 @@ unfolding
     onLoadl onStorel absent onCommit onReconcile decided performed merged memoryAfter replyTo settled taken entered issuedAt issued resumed retriedAt
     retried afterSend sentFrom sent afterArriveMemory arrivedMemory afterServe serveStep afterSendBack sentBack afterArriveSite arrivedSite tookAt took
     stepOf stepped outstandingAt outstandingLeft numberOf placeGiven answerGiven refusalGiven given bytesOfAll operands numbersOf stepsBytes consed
-    readNumbers sizesFrom readSizes issueLimits instructionOf issueFrom readIssue moveOf readMove readFields stepAt readStepOf writtenTo writeSizes writeStep candidates
+    readNumbers sizesFrom readSizes issueLimits instructionOf issueFrom readIssue moveOf readMove readFields stepAt readStepOf putAt writtenAt writeSizes writeStep candidates
     quiet stepsOfKind tries firstOf drained drainOf sameNumbers givenNumbers sizesGiven stepGiven wroteGiven gotGiven ranBy andThen drainNumbers drainRan
     ran memoryLine sizesNow entryNumbers pending messageNumbers queued siteQueued going leftNow upward downward allRight freshRight readsAll wroteRight
     readsRecord text digits nameOf answerText outcomeText listedFrom listing

@@ -202,5 +202,6 @@ partsFit s =
     netFits (s .sizes) request (s .up) && netFits (s .sizes) request (s .arrived) &&
     netFits (s .sizes) reply (s .served) && netFits (s .sizes) reply (s .down)
 
+-- The parts fit, and so do pend entries and messages.
 unfoldable pub sound : System → Bool
 sound s = partsFit s && messagesFit s (underWay s)

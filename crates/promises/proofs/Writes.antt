@@ -22,7 +22,7 @@ use Rattle.model.specs.declared.Refusal.the-variants.{BufferShort, SizeOutside,
 use Rattle.model.specs.declared.Wrote.the-variants.{Past, NotWritten}
 use Rattle.model.specs.Given.{mostBytes}
 use Rattle.model.specs.Limits.{inLimits}
-use Rattle.model.specs.Record.{bytesOfAll, sixOf, numbersOf, sizesBytes, stepBytes, stepsBytes, recordOf, written, writtenTo, writtenAt, writeSizes, writeStep}
+use Rattle.model.specs.Record.{bytesOfAll, sixOf, numbersOf, sizesBytes, stepBytes, stepsBytes, recordOf, written, putAt, writtenAt, writeSizes, writeStep}
 use Rattle.promises.specs.Reading.{writeSteps, writeRecord}
 use Rattle.promises.specs.Promises.{RecordBytes, Kept, WriteKeeps}
 
@@ -52,7 +52,7 @@ all-bytes z xs = each-append _ (sizesBytes z) (stepsBytes xs) (numbers-bytes (si
 
 pub written-at : (new buf : List ℕ) (at : ℕ) → at + length new ≤ mostBytes → at + length new ≤ length buf →
     writtenAt new buf at ≡ written (Past (at + length new)) (sets buf at new)
-unfolding writtenTo
+unfolding writtenAt putAt
 written-at new buf at m l = rw (le-leb (at + length new) mostBytes m, le-leb (at + length new) (length buf) l)
 
 -- the steps, behind some bytes
@@ -92,7 +92,7 @@ past at end i (inl k) l = absurd (omega arith)
 past at end i (inr k) l = k
 
 at-kept : (new buf : List ℕ) (at : ℕ) → Kept at buf (writtenAt new buf at)
-unfolding writtenTo
+unfolding writtenAt putAt
 at-kept new buf at =
     by-cond (Kept at buf) (leb (at + length new) mostBytes) _ _
     (λ t. by-cond (Kept at buf) (leb (at + length new) (length buf)) _ _

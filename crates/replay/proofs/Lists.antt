@@ -17,8 +17,8 @@ use Rattle.model.specs.declared.Sizes.{Sizes}
 use Rattle.model.specs.declared.ReadSizes.the-variants.{Sized, NoSizes}
 use Rattle.model.specs.declared.Wrote.{Wrote}
 use Rattle.model.specs.declared.Wrote.the-variants.{Past, NotWritten}
-use Rattle.model.specs.Record.{readSizes, Written, written, isPast, pastOf}
-use Rattle.model.specs.Replay.{sizesLine, recordLine, linedAt, listing}
+use Rattle.model.specs.Record.{readSizes, Written, written, isPast, pastOf, putAt}
+use Rattle.model.specs.Replay.{sizesLine, recordLine, listing}
 use Rattle.model.specs.Fresh.{blank}
 use Rattle.model.specs.Sound.{sound}
 use Rattle.lists.proofs.Tests.{T-true}
@@ -39,8 +39,8 @@ module _ (new buf after : List ℕ) (at : ℕ) where
     pub same : length after ≡ length buf
 
   lined-at : (b : Bool) → leb (at + length new) (length buf) ≡ b →
-      linedAt new buf at ≡ cond b (written (Past (at + length new)) (sets buf at new)) (written (NotWritten BufferShort) buf)
-  unfolding linedAt
+      putAt new buf at ≡ cond b (written (Past (at + length new)) (sets buf at new)) (written (NotWritten BufferShort) buf)
+  unfolding putAt
   lined-at b e = rw e
 
   there : (end : ℕ) → leb (at + length new) (length buf) ≡ true → written (Past end) after ≡ written (Past (at + length new)) (sets buf at new) → LinePut end
@@ -56,14 +56,14 @@ module _ (new buf after : List ℕ) (at : ℕ) where
         same = ap length b ∙ length-sets buf at new;
       }
 
-  pub put : (end : ℕ) → written (Past end) after ≡ linedAt new buf at → LinePut end
+  pub put : (end : ℕ) → written (Past end) after ≡ putAt new buf at → LinePut end
   put end e = by (leb (at + length new) (length buf)) refl
     where
       by : (b : Bool) → leb (at + length new) (length buf) ≡ b → LinePut end
       by true t = there end t (e ∙ lined-at true t)
       by false t = absurd (subst (λ (w : Written). T (isPast (w .wrote))) (e ∙ lined-at false t) tt)
 
-  pub no-room : (why : Refusal) → written (NotWritten why) after ≡ linedAt new buf at → (length buf < at + length new) × (after ≡ buf)
+  pub no-room : (why : Refusal) → written (NotWritten why) after ≡ putAt new buf at → (length buf < at + length new) × (after ≡ buf)
   no-room why e = by (leb (at + length new) (length buf)) refl
     where
       by : (b : Bool) → leb (at + length new) (length buf) ≡ b → (length buf < at + length new) × (after ≡ buf)
@@ -71,7 +71,7 @@ module _ (new buf after : List ℕ) (at : ℕ) where
       by false t = (leb-false (at + length new) (length buf) t, ap (λ (w : Written). w .buffer) (e ∙ lined-at false t))
 
 -- the first line of a buffer that has room for any
-pub first-line : (new buf after : List ℕ) (w : Wrote) → length new ≤ mostLine → mostLine ≤ length buf → written w after ≡ linedAt new buf 0 →
+pub first-line : (new buf after : List ℕ) (w : Wrote) → length new ≤ mostLine → mostLine ≤ length buf → written w after ≡ putAt new buf 0 →
     (take (pastOf w) after ≡ new) × (pastOf w ≤ length after)
 first-line new buf after (Past end) short room e =
     let p = put new buf after 0 end e in (p .text, omega (arith, p .past, p .room, p .same))

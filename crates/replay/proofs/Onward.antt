@@ -21,8 +21,8 @@ use Rattle.model.specs.declared.Wrote.the-variants.{Past, NotWritten}
 use Rattle.model.proofs.ReadStep as R
 use Rattle.model.specs.Sound.{sound}
 use Rattle.model.specs.Steps.{stepOf, stepped}
-use Rattle.model.specs.Record.{readStep, written}
-use Rattle.model.specs.Replay.{stepLine, linedAt, listedAt}
+use Rattle.model.specs.Record.{readStep, written, putAt}
+use Rattle.model.specs.Replay.{stepLine, listedAt}
 use Rattle.promises.proofs.Public.{stepped-sound}
 use Rattle.promises.proofs.Endings.{step-on}
 use Rattle.promises.proofs.Listed.{listed-step, listed-end, listed-fault}
@@ -71,7 +71,7 @@ module _ (bs buf₀ : List ℕ) (from : Listed) where
   module _ (buf after : List ℕ) (s : System) (at count used : ℕ) (ended : Bool) (o : Onward buf s at count used ended) where
     -- a step's line was put
     pub turn : (x : Step) (next end : ℕ) (a : After) → readStep bs at ≡ One x next → a ≡ stepOf s x →
-        written (Past end) after ≡ linedAt (stepLine (count + 1) x (a .outcome)) buf used → Onward after (a .system) next (count + 1) end ended
+        written (Past end) after ≡ putAt (stepLine (count + 1) x (a .outcome)) buf used → Onward after (a .system) next (count + 1) end ended
     turn x next end a r e w =
         let p = put (stepLine (count + 1) x (a .outcome)) buf after used end w in
         let on = step-on bs at next x r in
@@ -93,7 +93,7 @@ module _ (bs buf₀ : List ℕ) (from : Listed) where
 
     -- the last line was put
     pub finish : (got : ReadStep) (end : ℕ) → readStep bs at ≡ got → OneOf (1 ∷ 2 ∷ []) (tagOf R.the-type got) →
-        written (Past end) after ≡ linedAt (lastLine got s) buf used → Done after (record { system = s; at = at; count = count; length = end; ended = true })
+        written (Past end) after ≡ putAt (lastLine got s) buf used → Done after (record { system = s; at = at; count = count; length = end; ended = true })
     unfolding toList
     finish got end r k w =
         let p = put (lastLine got s) buf after used end w in (
@@ -113,7 +113,7 @@ module _ (bs buf₀ : List ℕ) (from : Listed) where
     )
 
     -- a line had no room
-    pub full : (new : List ℕ) (why : Refusal) → length new ≤ mostLine → mostLine ≤ length buf₀ → written (NotWritten why) after ≡ linedAt new buf used →
+    pub full : (new : List ℕ) (why : Refusal) → length new ≤ mostLine → mostLine ≤ length buf₀ → written (NotWritten why) after ≡ putAt new buf used →
         Done after (record { system = s; at = at; count = count; length = used; ended = ended })
     full new why short large w =
         let n = no-room new buf after used why w in

@@ -5,8 +5,8 @@ ghost use Prim.Native.Nat.{_≤_};
 ghost use lib.ListN.{length};
 ghost use Rattle.listing.specs.Room.{mostLine};
 ghost use Rattle.model.specs.Limits.{inLimits};
-ghost use Rattle.model.specs.Record.{pastOf, written};
-ghost use Rattle.model.specs.Replay.{sizesLine, recordLine, linedAt, listing};
+ghost use Rattle.model.specs.Record.{pastOf, written, putAt};
+ghost use Rattle.model.specs.Replay.{sizesLine, recordLine, listing};
 ghost use Rattle.replay.specs.Going.{First, refusedSizes, begunWith, lastLine, toList, inAll, Going, Further};
 use left::messages_left;
 use left::outstanding_left;
@@ -98,7 +98,7 @@ fn list_sizes(bytes: &[u8], buf: &mut [u8]) -> Listed
 
 // The line behind the last step: what is left, or the fault.
 fn put_last(buf: &mut [u8], at: usize, got: ReadStep, s: System) -> Wrote
-    ensures { λ r. ⌜ written r (now (buf .exit)) ≡ linedAt (lastLine got s) (now (buf .entry)) at ⌝ }
+    ensures { λ r. ⌜ written r (now (buf .exit)) ≡ putAt (lastLine got s) (now (buf .entry)) at ⌝ }
     ensures { λ _. ⌜ length (lastLine got s) ≤ mostLine ⌝ }
 {
     let ReadStep::NoStep(why) = got else {

@@ -7,7 +7,7 @@ use borrow.Author.Needs.{needs}
 use Rattle.numbers.specs.Groups.{Put}
 use Rattle.model.specs.declared.Wrote.the-variants.{Past}
 use Rattle.model.specs.Given.{mostBytes}
-use Rattle.model.specs.Record.{bytesOfAll, written, writtenTo}
+use Rattle.model.specs.Record.{bytesOfAll, written, putAt, writtenAt}
 use Rattle.record.specs.Rows.{listed}
 use Rattle.record.proofs.rows.write_row.Statement.{statement}
 use Rattle.record.proofs.rows.write_row.Tie as tie
@@ -19,7 +19,7 @@ sub-if1 : tie.Need-sub-if1
 sub-if1 c = omega arith
 
 returns : tie.Need-returns
-unfolding writtenTo
+unfolding writtenAt putAt
 returns c =
     let args = c .before .before .before .args in
     rw (lt-leb (args .at + length (bytesOfAll (listed (args .row)))) mostBytes (omega (arith, c .before .row-length .ensures .0)))
@@ -28,7 +28,7 @@ add-if2 : tie.Need-add-if2
 add-if2 c = search needs
 
 returns-2 : tie.Need-returns-2
-unfolding writtenTo
+unfolding writtenAt putAt
 returns-2 c =
     let args = c .before .before .before .before .args in
     let row-length = c .before .before .row-length in
@@ -44,7 +44,7 @@ same-length : tie.Need-same-length
 same-length c = search needs
 
 returns-3 : tie.Need-returns-3
-unfolding writtenTo
+unfolding writtenAt putAt
 returns-3 c =
     let args = c .before .before .before .before .before .before .before .before .args in
     let row-length = c .before .before .before .before .before .before .row-length in
