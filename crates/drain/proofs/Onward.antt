@@ -1,6 +1,6 @@
 -- The drain under way: what it has taken and written so far, and what is left of its budget, give what the definition gives.
 use mathlib.Core.Path.{_≡_, refl, ap, sym, subst, _∙_}
-use mathlib.Core.List.{List, [], _∷_, _++_, append-nil, append-assoc}
+use mathlib.Core.List.{List, [], _∷_, _++_, append-nil, flatMap}
 use mathlib.Core.Bool.{Bool, true, false}
 use Prim.Native.Nat.{ℕ, zero, suc, _+_, _-_, _*_, _≤_, _<_, min}
 use native.Mathlib.Nat.{zero-add}
@@ -9,6 +9,7 @@ use lib.Dec.{T}
 use lib.ListN.{length, length-append}
 use lib.Seq.{sets, length-sets}
 use borrow.Author.Tests.{le-leb}
+use Rattle.lists.proofs.Counts.{flat-append}
 use Rattle.lists.proofs.Stores.{sets-append}
 use Rattle.numbers.specs.Groups.{Put, putTo}
 use Rattle.model.specs.Drain.{tries, accepts, quiet, Choice, chosen, nextStep, further, drained, drainGives, drainOf}
@@ -62,9 +63,8 @@ module _ (x : Step) (buf : List ℕ) (at : ℕ) (m : at + length (stepBytes x) �
         rw (p, ap (λ (a : Written). a .buffer) wrote)
 
 one-more-bytes : (xs : List Step) (x : Step) → stepsBytes (xs ++ (x ∷ [])) ≡ stepsBytes xs ++ stepBytes x
-unfolding stepsBytes
-one-more-bytes [] x = append-nil (stepBytes x)
-one-more-bytes (y ∷ xs) x = ap (λ (l : List ℕ). stepBytes y ++ l) (one-more-bytes xs x) ∙ sym (append-assoc (stepBytes y) (stepsBytes xs) (stepBytes x))
+unfolding flatMap
+one-more-bytes xs x = flat-append stepBytes xs (x ∷ []) ∙ ap (λ (l : List ℕ). stepsBytes xs ++ l) (append-nil (stepBytes x))
 
 -- THE DRAIN UNDER WAY
 
@@ -85,7 +85,7 @@ pub record Onward (s : System) (budget : ℕ) (lent : List ℕ) (t : System) (co
   pub bytes : buf ≡ sets lent 0 (stepsBytes steps)
 
 pub start : (s : System) (budget : ℕ) (buf : List ℕ) → sound s ≡ true → 2 * min budget mostDrain ≤ length buf → Onward s budget buf s 0 0 buf
-unfolding stepsBytes
+unfolding flatMap
 start s budget buf h k = record {
   begun = h;
   room = k;

@@ -1,7 +1,7 @@
 -- Laws of counting and testing the elements of lists, and of lists put one behind the other.
-use mathlib.Core.Path.{_≡_, refl, ap, _∙_, subst}
+use mathlib.Core.Path.{_≡_, refl, ap, sym, _∙_, subst}
 use mathlib.Core.Logic.{⊎-elim}
-use mathlib.Core.List.{List, [], _∷_, _++_, map, List·Memᴰ, List·Memᴰ·head, List·Memᴰ·tail, Memᴰ·append-left, Memᴰ·append-right}
+use mathlib.Core.List.{List, [], _∷_, _++_, map, flatMap, append-assoc, List·Memᴰ, List·Memᴰ·head, List·Memᴰ·tail, Memᴰ·append-left, Memᴰ·append-right}
 use mathlib.Core.Bool.{Bool, true}
 use Prim.Native.Nat.{ℕ, zero, suc, _+_, _≤_, _<_}
 use native.Mathlib.Nat.{not-suc-le-zero, le-of-suc-le-suc, eq-or-lt-of-le, add-zero, zero-add, suc-add, add-suc}
@@ -180,3 +180,15 @@ module _ {A : Type 0} where
   unfolding allOf
   allOf-none zero g h = refl
   allOf-none (suc n) g h = rw (allOf-none n g (λ i l. h i (omega arith)), h n (omega arith))
+
+-- what each element gives, one behind the other
+module _ {A B : Type 0} (f : A → List B) where
+  pub flat-append : (xs ys : List A) → flatMap f (xs ++ ys) ≡ flatMap f xs ++ flatMap f ys
+  unfolding flatMap
+  flat-append [] ys = refl
+  flat-append (x ∷ xs) ys = ap (λ (l : List B). f x ++ l) (flat-append xs ys) ∙ sym (append-assoc (f x) (flatMap f xs) (flatMap f ys))
+
+  pub each-flat : (g : B → Bool) → ((x : A) → T (each g (f x))) → (xs : List A) → T (each g (flatMap f xs))
+  unfolding flatMap each
+  each-flat g h [] = tt
+  each-flat g h (x ∷ xs) = each-append g (f x) (flatMap f xs) (h x) (each-flat g h xs)

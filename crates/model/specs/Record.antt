@@ -1,5 +1,5 @@
 -- Document 01, "The record": what a record is, what reading gives, and what writing leaves.
-use mathlib.Core.List.{List, [], _∷_, _++_}
+use mathlib.Core.List.{List, [], _∷_, _++_, flatMap}
 use mathlib.Core.Bool.{Bool, true, false, _||_, cond}
 use Prim.Native.Nat.{ℕ, _+_}
 use lib.Dec.{leb, eqb}
@@ -34,9 +34,8 @@ mostValue = 4294967295
 
 -- THE BYTES OF A LIST OF STEPS
 
-unfoldable pub bytesOfAll : List ℕ → List ℕ
-bytesOfAll [] = []
-bytesOfAll (n ∷ ns) = bytesOf n ++ bytesOfAll ns
+abbrev pub bytesOfAll : List ℕ → List ℕ
+bytesOfAll ns = flatMap bytesOf ns
 
 -- the six sizes, in the table's order
 abbrev pub sixOf : Sizes → List ℕ
@@ -71,9 +70,8 @@ numbersOf (Take i) = 7 ∷ i ∷ []
 abbrev pub stepBytes : Step → List ℕ
 stepBytes x = bytesOfAll (numbersOf x)
 
-unfoldable pub stepsBytes : List Step → List ℕ
-stepsBytes [] = []
-stepsBytes (x ∷ xs) = stepBytes x ++ stepsBytes xs
+abbrev pub stepsBytes : List Step → List ℕ
+stepsBytes xs = flatMap stepBytes xs
 
 abbrev pub recordOf : Sizes → List Step → List ℕ
 recordOf z xs = sizesBytes z ++ stepsBytes xs

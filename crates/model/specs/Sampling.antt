@@ -1,6 +1,6 @@
 -- What a sample is, and when it holds: a number and its bytes, a fresh system and what is done to it, a record read or written.
 use mathlib.Core.Path.{_≡_}
-use mathlib.Core.List.{List, [], _∷_, _++_}
+use mathlib.Core.List.{List, [], _∷_, _++_, flatMap}
 use mathlib.Core.Bool.{Bool, true, false, _&&_, cond}
 use Prim.Native.Nat.{ℕ, suc}
 use Prim.Native.String.{String}
@@ -32,8 +32,8 @@ use Rattle.model.specs.Steps.{stepped, entered, issuedAt, issued, resume
 use Rattle.model.specs.Steps.{arrivedMemory, afterServe, serveStep, afterSendBack, sentBack, afterArriveSite, arrivedSite, tookAt, took, stepOf}
 use Rattle.model.specs.Left.{outstandingLeft, messagesLeft, outstandingAt}
 use Rattle.model.specs.Given.{numberOf, placeGiven, given, answerGiven, refusalGiven}
-use Rattle.model.specs.Record.{Written, mostNumber, numbersOf, recordOf, readSizes, readStep, writeSizes, writeStep, bytesOfAll, operands}
-use Rattle.model.specs.Record.{stepsBytes, consed, readNumbers, sizesFrom, issueLimits, instructionOf, issueFrom, readIssue, moveOf, readMove, readFields, stepAt}
+use Rattle.model.specs.Record.{Written, mostNumber, numbersOf, recordOf, readSizes, readStep, writeSizes, writeStep, operands}
+use Rattle.model.specs.Record.{consed, readNumbers, sizesFrom, issueLimits, instructionOf, issueFrom, readIssue, moveOf, readMove, readFields, stepAt}
 use Rattle.model.specs.Record.{readStepOf, putAt, writtenAt, sixOf}
 use Rattle.model.specs.Replay.{text, digits, nameOf, answerText, outcomeText, listedFrom, listing}
 use Rattle.model.specs.Drain.{Drain, drainOf, candidates, quiet, stepsOfKind, tries, firstOf, drained}
@@ -226,7 +226,7 @@ unfolding
     sitesFit underWay exactlyOne noOthers messagesFit sound kindOf firstAddress lastAddress valueOf addressesFit tagFree blocks mayIssue missed
     onLoadl onStorel absent onCommit onReconcile decided performed merged memoryAfter replyTo settled taken entered issuedAt issued resumed retriedAt
     retried afterSend sentFrom sent afterArriveMemory arrivedMemory afterServe serveStep afterSendBack sentBack afterArriveSite arrivedSite tookAt took
-    stepOf stepped outstandingAt outstandingLeft numberOf placeGiven answerGiven refusalGiven given bytesOfAll operands numbersOf stepsBytes consed
+    stepOf stepped outstandingAt outstandingLeft numberOf placeGiven answerGiven refusalGiven given flatMap operands numbersOf consed
     readNumbers sizesFrom readSizes issueLimits instructionOf issueFrom readIssue moveOf readMove readFields stepAt readStepOf putAt writtenAt writeSizes writeStep candidates
     quiet stepsOfKind tries firstOf drained drainOf sameNumbers givenNumbers sizesGiven stepGiven wroteGiven gotGiven ranBy andThen drainNumbers drainRan
     ran memoryLine sizesNow entryNumbers pending messageNumbers queued siteQueued going leftNow upward downward allRight freshRight readsAll wroteRight

@@ -1,6 +1,6 @@
 -- The drain: each step that it takes is accepted and no issue, its steps lead to the state that it leaves, and that state is quiet unless the budget is spent.
 use mathlib.Core.Path.{_≡_, refl, ap, _∙_}
-use mathlib.Core.List.{List, [], _∷_}
+use mathlib.Core.List.{List, [], _∷_, flatMap}
 use mathlib.Core.Bool.{Bool, true, false, _&&_}
 use Prim.Native.Nat.{ℕ, zero, suc, _+_, _*_, _≤_, _<_, min}
 use native.Mathlib.Omega.{arith}
@@ -85,7 +85,7 @@ abbrev pub small : List ℕ → Bool
 small vs = each (λ v. ltb v 128) vs
 
 small-bytes : (vs : List ℕ) → T (small vs) → length (bytesOfAll vs) ≡ length vs
-unfolding bytesOfAll each
+unfolding flatMap each
 small-bytes [] t = refl
 small-bytes (v ∷ vs) t = rw (bytes-last v (ltb→lt v 128 (and-l (ltb v 128) _ t)), small-bytes vs (and-r (ltb v 128) _ t))
 
@@ -140,12 +140,12 @@ pub record Leaves (b : ℕ) (s : System) (d : Taken) : Type 0 where
   pub bytes : length (stepsBytes (d .steps)) ≤ 2 * length (d .steps)
 
 none-taken : (b : ℕ) (s : System) → Sound s → (0 < b → T (quiet s)) → Leaves b s (record { steps = []; state = s })
-unfolding afterRun accepted stepsBytes each
+unfolding afterRun accepted flatMap each
 none-taken b s h q = record { most = omega arith; short = q; keeps = h; leads = refl; taken = refl; written = tt; bytes = omega arith }
 
 one-more : (b : ℕ) (s : System) → Sound s → (x : Step) (d : Taken) → T (tryOf s x) → T (accepts s x) → Leaves b (stepOf s x .system) d →
     Leaves (suc b) s (further x d)
-unfolding afterRun accepted stepsBytes each
+unfolding afterRun accepted flatMap each
 one-more b s h x d k a r =
     let two : Short (numbersOf x) = try-short (s .sizes .sites) (the-limits s h .sites-most) x k in
     record {

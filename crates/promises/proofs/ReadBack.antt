@@ -1,6 +1,6 @@
 -- What was written is read back: where the bytes of numbers, sizes and steps stand, those are read.
 use mathlib.Core.Path.{_≡_, refl, ap, sym, _∙_}
-use mathlib.Core.List.{List, [], _∷_, _++_, append-assoc}
+use mathlib.Core.List.{List, [], _∷_, _++_, append-assoc, flatMap}
 use mathlib.Core.Bool.{true, false}
 use Prim.Native.Nat.{ℕ, _+_, _≤_, _<_}
 use native.Mathlib.Nat.{zero-add, add-zero, add-assoc}
@@ -43,7 +43,7 @@ number-back bs rest at v l e = rw (e, read-written 4 v true rest (omega arith) r
 
 numbers-back : (bs rest : List ℕ) (at : ℕ) (vs : List ℕ) → T (inRange vs) → drop at bs ≡ bytesOfAll vs ++ rest →
     InTurn bs at vs (at + length (bytesOfAll vs))
-unfolding each bytesOfAll
+unfolding each flatMap
 numbers-back bs rest at [] t e = rw add-zero noMore
 numbers-back bs rest at (v ∷ vs) t e =
     let l : v ≤ mostNumber = leb→le v mostNumber (and-l (leb v mostNumber) _ t) in
@@ -91,7 +91,7 @@ step-back bs at next (Take i) (oneMore e (oneMore f noMore)) = cc
 
 pub steps-back : (bs : List ℕ) → length bs ≤ mostBytes → (at : ℕ) (xs : List Step) → at ≤ length bs → T (each recordable xs) → drop at bs ≡ stepsBytes xs →
     Reading bs at xs whole
-unfolding each stepsBytes readStepOf
+unfolding each flatMap readStepOf
 steps-back bs m at [] l t e =
     let end : at ≡ length bs = omega (arith, length-drop at bs, ap length e) in
     ended at (rw (le-leb (length bs) mostBytes m, eq-eqb at (length bs) end))

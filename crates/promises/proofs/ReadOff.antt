@@ -1,6 +1,6 @@
 -- What reads is what would be written: the bytes that numbers, sizes and steps are read from are their bytes.
 use mathlib.Core.Path.{_≡_, refl, ap, _∙_}
-use mathlib.Core.List.{List, _++_, append-assoc}
+use mathlib.Core.List.{List, _++_, append-assoc, flatMap}
 use mathlib.Core.Bool.{true}
 use Prim.Native.Nat.{ℕ, _+_}
 use lib.Dec.{T, leb, ltb, le→leb}
@@ -26,7 +26,7 @@ module _ (bs : List ℕ) (h : T (bytes bs)) where
       rw (drop-drop (f .size) at bs, f .past)
 
   numbers-off : (at : ℕ) (vs : List ℕ) (end : ℕ) → InTurn bs at vs end → drop at bs ≡ bytesOfAll vs ++ drop end bs
-  unfolding bytesOfAll
+  unfolding flatMap
   numbers-off at vs end noMore = refl
   numbers-off at vs end (oneMore {v = v} {next = next} {vs = ws} e r) =
       number-off at v next (found bs at e) ∙ rw (numbers-off next ws end r, append-assoc)
@@ -47,7 +47,7 @@ steps-fit bs at xs e (further a next x ys f p r) =
     both (recordable x) _ (numbers-fit bs a (numbersOf x) next (step-numbers bs a p)) (steps-fit bs next ys f r)
 
 steps-off : (bs : List ℕ) → T (bytes bs) → (at : ℕ) (xs : List Step) → Reading bs at xs whole → drop at bs ≡ stepsBytes xs
-unfolding stepsBytes
+unfolding flatMap
 steps-off bs h at xs (ended a p) = rw (rw p at (step-says bs at)) (drop-length bs)
 steps-off bs h at xs (further a next x ys e p r) =
     numbers-off bs h a (numbersOf x) next (step-numbers bs a p) ∙ ap (λ (l : List ℕ). stepBytes x ++ l) (steps-off bs h next ys r)

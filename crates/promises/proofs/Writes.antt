@@ -1,7 +1,7 @@
 -- What the writers leave: bytes, a record where it was put, and all other bytes as they were.
 use mathlib.Core.Path.{_≡_, refl, _∙_}
 use mathlib.Core.Logic.{_⊎_, inl, inr}
-use mathlib.Core.List.{List, [], _∷_, _++_, append-nil}
+use mathlib.Core.List.{List, [], _∷_, _++_, append-nil, flatMap}
 use mathlib.Core.Bool.{true}
 use Prim.Native.Nat.{ℕ, zero, suc, _+_, _/_, _%_, _≤_, _<_}
 use native.Mathlib.Nat.{zero-add, add-assoc}
@@ -12,7 +12,7 @@ use lib.Seq.{sets, length-sets, sets-eq, getD-set-other}
 use borrow.Author.Tests.{le-leb}
 use Rattle.lists.specs.Places.{each}
 use Rattle.lists.proofs.Tests.{by-cond, T-true, both}
-use Rattle.lists.proofs.Counts.{each-append}
+use Rattle.lists.proofs.Counts.{each-append, each-flat}
 use Rattle.lists.proofs.Stores.{sets-append}
 use Rattle.numbers.specs.Groups.{bytes, encoded, mostGroups, bytesOf}
 use Rattle.model.specs.declared.Sizes.{Sizes}
@@ -36,17 +36,10 @@ groups-bytes (suc g) n =
     (λ t. both (ltb (128 + n % 128) 256) _ (lt→ltb (128 + n % 128) 256 (omega arith)) (groups-bytes g (n / 128)))
 
 numbers-bytes : (ns : List ℕ) → T (bytes (bytesOfAll ns))
-unfolding bytesOfAll each
-numbers-bytes [] = tt
-numbers-bytes (n ∷ ns) = each-append _ (bytesOf n) (bytesOfAll ns) (groups-bytes mostGroups n) (numbers-bytes ns)
-
-steps-bytes : (xs : List Step) → T (bytes (stepsBytes xs))
-unfolding stepsBytes each
-steps-bytes [] = tt
-steps-bytes (x ∷ xs) = each-append _ (stepBytes x) (stepsBytes xs) (numbers-bytes (numbersOf x)) (steps-bytes xs)
+numbers-bytes = each-flat bytesOf _ (groups-bytes mostGroups)
 
 pub all-bytes : RecordBytes
-all-bytes z xs = each-append _ (sizesBytes z) (stepsBytes xs) (numbers-bytes (sixOf z)) (steps-bytes xs)
+all-bytes z xs = each-append _ (sizesBytes z) (stepsBytes xs) (numbers-bytes (sixOf z)) (each-flat stepBytes _ (λ x. numbers-bytes (numbersOf x)) xs)
 
 -- ONE BEHIND THE OTHER
 
@@ -59,7 +52,7 @@ written-at new buf at m l = rw (le-leb (at + length new) mostBytes m, le-leb (at
 steps-written : (xs : List Step) (new buf : List ℕ) (at : ℕ) →
     at + length (new ++ stepsBytes xs) ≤ mostBytes → at + length (new ++ stepsBytes xs) ≤ length buf →
     writeSteps xs (writtenAt new buf at) ≡ written (Past (at + length (new ++ stepsBytes xs))) (sets buf at (new ++ stepsBytes xs))
-unfolding writeSteps writeStep stepsBytes
+unfolding writeSteps writeStep flatMap
 steps-written [] new buf at m l = rw append-nil (written-at new buf at (rw append-nil at m) (rw append-nil at l))
 steps-written (x ∷ xs) new buf at m l =
     let more : List ℕ = stepBytes x ++ stepsBytes xs in

@@ -1,11 +1,12 @@
 -- A row gone through one number at a time, as the code writes and reads it.
 use mathlib.Core.Path.{_≡_, refl, ap, sym, _∙_}
-use mathlib.Core.List.{List, [], _∷_, _++_, append-assoc, append-nil}
+use mathlib.Core.List.{List, [], _∷_, _++_, append-nil, flatMap}
 use Prim.Native.Nat.{ℕ, suc, _+_, _-_, _≤_, _<_}
 use native.Mathlib.Numerals.{add-one}
 use native.Mathlib.Omega.{arith}
 use lib.ListN.{length, getD, set, take, drop, length-append, length-take, drop-of-length-le}
 use lib.Seq.{sets, length-sets, take-suc, take-suc-set, take-add, drop-cons, getD-take, length-take-le}
+use Rattle.lists.proofs.Counts.{flat-append}
 use Rattle.lists.proofs.Stores.{sets-append}
 use Rattle.numbers.specs.declared.Got.the-variants.{Number, Fault}
 use Rattle.numbers.specs.Groups.{bytesOf, readNumber, Put, putTo, putBytes}
@@ -15,15 +16,10 @@ use Rattle.model.specs.Record.{bytesOfAll, Numbers, numbers, faultAt, consed, r
 
 -- WRITING
 
-bytes-both : (a b : List ℕ) → bytesOfAll (a ++ b) ≡ bytesOfAll a ++ bytesOfAll b
-unfolding bytesOfAll
-bytes-both [] b = refl
-bytes-both (n ∷ a) b = ap (λ (l : List ℕ). bytesOf n ++ l) (bytes-both a b) ∙ sym (append-assoc (bytesOf n) (bytesOfAll a) (bytesOfAll b))
-
 pub bytes-turn : (ns : List ℕ) (i : ℕ) → i < length ns → bytesOfAll (take (i + 1) ns) ≡ bytesOfAll (take i ns) ++ bytesOf (getD ns i 0)
-unfolding bytesOfAll
+unfolding flatMap
 bytes-turn ns i h =
-    ap (λ (k : ℕ). bytesOfAll (take k ns)) (add-one i) ∙ ap bytesOfAll (take-suc ns i 0 h) ∙ bytes-both (take i ns) (getD ns i 0 ∷ []) ∙
+    ap (λ (k : ℕ). bytesOfAll (take k ns)) (add-one i) ∙ ap bytesOfAll (take-suc ns i 0 h) ∙ flat-append bytesOf (take i ns) (getD ns i 0 ∷ []) ∙
     ap (λ (l : List ℕ). bytesOfAll (take i ns) ++ l) (append-nil (bytesOf (getD ns i 0)))
 
 -- the first numbers take no more bytes than all
@@ -33,7 +29,7 @@ bytes-less ns i n h =
     rw (
       ← p,
       take-add i (n - i) ns,
-      bytes-both (take i ns) (take (n - i) (drop i ns)),
+      flat-append bytesOf (take i ns) (take (n - i) (drop i ns)),
       length-append (bytesOfAll (take i ns)) (bytesOfAll (take (n - i) (drop i ns))),
     )
     (omega arith)

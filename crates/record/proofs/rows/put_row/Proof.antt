@@ -1,3 +1,4 @@
+use mathlib.Core.List.{flatMap}
 use mathlib.Core.Path.{refl, ap, sym, _∙_, _≡_}
 use Prim.Native.Nat.{ℕ, _+_, _-_, _≤_}
 use native.Mathlib.Nat.{add-zero}
@@ -20,7 +21,7 @@ abbrev μ-loop : tie.MeasureT-loop
 μ-loop buf₀ at numbers count past₀ i₀ buf past i = count - i
 
 loop-holds : tie.Need-loop-holds Inv-loop μ-loop
-unfolding bytesOfAll
+unfolding flatMap
 loop-holds c =
     let args = c .before .before .args in
     (omega arith, (refl, ap (λ (m : ℕ). putTo m (args .buf .now)) (sym (add-zero (args .at)))))

@@ -1,3 +1,4 @@
+use mathlib.Core.List.{flatMap}
 use mathlib.Core.Path.{ap, _≡_}
 use Prim.Native.Nat.{_-_, _*_, _≤_}
 use native.Mathlib.Omega.{arith}
@@ -17,7 +18,7 @@ abbrev μ-loop : tie.MeasureT-loop
 μ-loop numbers count size₀ i₀ size i = count - i
 
 loop-holds : tie.Need-loop-holds Inv-loop μ-loop
-unfolding bytesOfAll
+unfolding flatMap
 loop-holds c = search needs
 
 mul-number-length : tie.Need-mul-number-length Inv-loop μ-loop
