@@ -1,4 +1,4 @@
--- States that are not sound, one clause of document 01's paragraph broken in each.
+-- States that are not sound, one clause of document 01's paragraph broken in each, and beside them states that still are.
 use mathlib.Core.List.{List, [], _∷_, _++_}
 use mathlib.Core.Bool.{Bool, true, false, cond}
 use Prim.Native.Nat.{ℕ}

@@ -104,8 +104,9 @@ pub data Act : Type 0 where
   shows : (System → List ℕ) → List ℕ → Act
   -- a drain with a budget and a buffer gives number, count, quiet and length, and leaves a buffer
   drains : ℕ → List ℕ → List ℕ → List ℕ → Act
-  -- the state with some part put anew is not sound, or still is; memory has nothing to serve in it
+  -- the state with some part put anew is not sound
   unsound : (System → System) → Act
+  -- or is still sound, with nothing for memory to serve
   remains : (System → System) → Act
 
 infix 68 _⇒_

@@ -1,1 +1,1 @@
-// What the three demands of document 01 say of every run: statements in specs/, proofs in proofs/. No code.
+// What the three demands say of every run: statements in specs/, proofs in proofs/. No code.

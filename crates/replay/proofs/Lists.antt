@@ -38,10 +38,10 @@ module _ (new buf after : List ℕ) (at : ℕ) where
     pub room : at + length new ≤ length buf
     pub same : length after ≡ length buf
 
-  lined-at : (b : Bool) → leb (at + length new) (length buf) ≡ b →
+  put-at : (b : Bool) → leb (at + length new) (length buf) ≡ b →
       putAt new buf at ≡ cond b (written (Past (at + length new)) (sets buf at new)) (written (NotWritten BufferShort) buf)
   unfolding putAt
-  lined-at b e = rw e
+  put-at b e = rw e
 
   there : (end : ℕ) → leb (at + length new) (length buf) ≡ true → written (Past end) after ≡ written (Past (at + length new)) (sets buf at new) → LinePut end
   there end t e =
@@ -60,15 +60,15 @@ module _ (new buf after : List ℕ) (at : ℕ) where
   put end e = by (leb (at + length new) (length buf)) refl
     where
       by : (b : Bool) → leb (at + length new) (length buf) ≡ b → LinePut end
-      by true t = there end t (e ∙ lined-at true t)
-      by false t = absurd (subst (λ (w : Written). T (isPast (w .wrote))) (e ∙ lined-at false t) tt)
+      by true t = there end t (e ∙ put-at true t)
+      by false t = absurd (subst (λ (w : Written). T (isPast (w .wrote))) (e ∙ put-at false t) tt)
 
   pub no-room : (why : Refusal) → written (NotWritten why) after ≡ putAt new buf at → (length buf < at + length new) × (after ≡ buf)
   no-room why e = by (leb (at + length new) (length buf)) refl
     where
       by : (b : Bool) → leb (at + length new) (length buf) ≡ b → (length buf < at + length new) × (after ≡ buf)
-      by true t = absurd (subst (λ (w : Written). T (isPast (w .wrote))) (sym (e ∙ lined-at true t)) tt)
-      by false t = (leb-false (at + length new) (length buf) t, ap (λ (w : Written). w .buffer) (e ∙ lined-at false t))
+      by true t = absurd (subst (λ (w : Written). T (isPast (w .wrote))) (sym (e ∙ put-at true t)) tt)
+      by false t = (leb-false (at + length new) (length buf) t, ap (λ (w : Written). w .buffer) (e ∙ put-at false t))
 
 -- the first line of a buffer that has room for any
 pub first-line : (new buf after : List ℕ) (w : Wrote) → length new ≤ mostLine → mostLine ≤ length buf → written w after ≡ putAt new buf 0 →
