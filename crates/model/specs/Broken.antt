@@ -16,7 +16,7 @@ use Rattle.model.specs.declared.Instruction.the-variants.{Loadl, Storel,
 use Rattle.model.specs.declared.Step.the-variants.{Issue, Send, Serve}
 use Rattle.model.specs.Fresh.{noValues, noMarks, noSiteQueue}
 use Rattle.model.specs.Parts.{siteAt, putSite, withCache, withPends, withStalls, withOutgoing, withIncoming, sitePut, netPut, netRest, withMemory, withNets}
-use Rattle.model.specs.Sampling.{done, value, ack, no, Act, Sample, sized, run, _⇒_, trip, unsound, remains}
+use Rattle.model.specs.Sampling.{done, value, ack, no, Act, Sample, sized, run, _⇒_, trip, unsound, stillSound}
 
 abbrev pub withSizes : Sizes → System → System
 withSizes z s = record {
@@ -143,15 +143,15 @@ soundSamples =
     -- so does each field that the kind has no use for, and each word past the line's words
     run (sized 2 2 4 2 2 2) (busy ++ (
     unsound (withWaiting 0 1 (waits 2 0 1 4 1)) ∷ unsound (withWaiting 0 1 (waits 3 0 1 4 1)) ∷
-    remains (writing (says 1 0 2 noValues) (pends 2 2 1 5 0 (1 ∷ 2 ∷ 0 ∷ 0 ∷ []))) ∷ unsound (writing (says 1 0 2 noValues) (pends 2 2 1 5 0 fourth)) ∷
-    unsound (writing (says 1 0 2 noValues) (pends 2 2 1 5 1 noValues)) ∷ remains (writing (says 1 0 2 noValues) (pends 3 2 1 5 0 noValues)) ∷
+    stillSound (writing (says 1 0 2 noValues) (pends 2 2 1 5 0 (1 ∷ 2 ∷ 0 ∷ 0 ∷ []))) ∷ unsound (writing (says 1 0 2 noValues) (pends 2 2 1 5 0 fourth)) ∷
+    unsound (writing (says 1 0 2 noValues) (pends 2 2 1 5 1 noValues)) ∷ stillSound (writing (says 1 0 2 noValues) (pends 3 2 1 5 0 noValues)) ∷
     unsound (writing (says 1 0 2 noValues) (pends 3 2 1 5 1 noValues)) ∷ unsound (writing (says 1 0 2 noValues) (pends 3 2 1 5 0 (1 ∷ 0 ∷ 0 ∷ 0 ∷ []))) ∷
-    remains (writing (says 1 0 2 noValues) (pends 4 2 0 0 0 noValues)) ∷ unsound (writing (says 1 0 2 noValues) (pends 4 2 1 0 0 noValues)) ∷
+    stillSound (writing (says 1 0 2 noValues) (pends 4 2 0 0 0 noValues)) ∷ unsound (writing (says 1 0 2 noValues) (pends 4 2 1 0 0 noValues)) ∷
     unsound (writing (says 1 0 2 noValues) (pends 4 2 0 0 1 noValues)) ∷ unsound (writing (says 1 0 2 noValues) (pends 4 2 0 0 0 (1 ∷ 0 ∷ 0 ∷ 0 ∷ []))) ∷
-    remains (writing (marked (says 1 0 2 (1 ∷ 2 ∷ 0 ∷ 0 ∷ []))) (pends 4 2 0 0 0 noValues)) ∷
+    stillSound (writing (marked (says 1 0 2 (1 ∷ 2 ∷ 0 ∷ 0 ∷ []))) (pends 4 2 0 0 0 noValues)) ∷
     unsound (writing (says 1 0 2 fourth) (pends 4 2 0 0 0 noValues)) ∷ unsound (writing (marking fourthMarked (says 1 0 2 noValues)) (pends 4 2 0 0 0 noValues)) ∷
-    remains (moved 3 (says 2 1 3 (1 ∷ 2 ∷ 0 ∷ 0 ∷ []))) ∷ unsound (moved 3 (says 2 1 3 fourth)) ∷
-    remains (acknowledging (says 3 1 3 noValues)) ∷ unsound (acknowledging (says 3 1 3 (1 ∷ 0 ∷ 0 ∷ 0 ∷ []))) ∷ unsound (acknowledging (marked (says 3 1 3 noValues))) ∷
+    stillSound (moved 3 (says 2 1 3 (1 ∷ 2 ∷ 0 ∷ 0 ∷ []))) ∷ unsound (moved 3 (says 2 1 3 fourth)) ∷
+    stillSound (acknowledging (says 3 1 3 noValues)) ∷ unsound (acknowledging (says 3 1 3 (1 ∷ 0 ∷ 0 ∷ 0 ∷ []))) ∷ unsound (acknowledging (marked (says 3 1 3 noValues))) ∷
     unsound (withPlace 0 1 (holding true 1 fourthMarked noValues)) ∷ Serve ⇒ no 8 ∷ [])) ∷
     -- a site past the sizes has nothing in use, and its places hold 0
     run (sized 2 2 4 2 2 2) (
@@ -162,13 +162,13 @@ soundSamples =
     run (sized 2 2 4 2 2 2) (busy ++ (
     unsound (withPlace 0 0 (clean 1 noValues)) ∷ unsound (withPlace 0 0 (clean 0 noValues)) ∷ unsound (withPlace 0 2 (clean 2 noValues)) ∷
     unsound (withPlace 0 1 (clean 1 (0 ∷ 0 ∷ 1 ∷ 0 ∷ []))) ∷ unsound (withPlace 0 1 (clean 5 noValues)) ∷ unsound (withPlace 3 0 (clean 0 noValues)) ∷
-    unsound (λ s. withGoing 0 0 (says 1 0 0 noValues) (withEntry 0 1 (pends 4 0 0 0 0 noValues) s)) ∷
+    unsound (writing (says 1 0 0 noValues) (pends 4 0 0 0 0 noValues)) ∷
     unsound (withLine 0 (0 ∷ 0 ∷ 1 ∷ 0 ∷ [])) ∷ unsound (withLine 4 (1 ∷ 0 ∷ 0 ∷ 0 ∷ [])) ∷ Serve ⇒ no 8 ∷ [])) ∷
     -- line L lives in set L mod sets
     run (sized 1 1 16 8 1 1) (
-    remains (withPlace 0 5 (clean 13 noValues)) ∷ unsound (withPlace 0 5 (clean 12 noValues)) ∷ unsound (withPlace 0 7 (clean 13 noValues)) ∷ Serve ⇒ no 8 ∷ []) ∷
+    stillSound (withPlace 0 5 (clean 13 noValues)) ∷ unsound (withPlace 0 5 (clean 12 noValues)) ∷ unsound (withPlace 0 7 (clean 13 noValues)) ∷ Serve ⇒ no 8 ∷ []) ∷
     run (sized 1 1 16 3 1 1) (
-    remains (withPlace 0 2 (clean 14 noValues)) ∷ unsound (withPlace 0 2 (clean 13 noValues)) ∷ remains (withPlace 0 1 (clean 10 noValues)) ∷ Serve ⇒ no 8 ∷ []) ∷
+    stillSound (withPlace 0 2 (clean 14 noValues)) ∷ unsound (withPlace 0 2 (clean 13 noValues)) ∷ stillSound (withPlace 0 1 (clean 10 noValues)) ∷ Serve ⇒ no 8 ∷ []) ∷
     -- each pend entry has exactly one message under way, of its kind, site and line, and there are no others
     run (sized 2 2 4 2 2 2) (busy ++ (
     unsound (withGoing 0 0 (says 1 0 2 noValues)) ∷ unsound (withGoing 0 0 (says 0 1 2 noValues)) ∷ unsound (withGoing 0 0 (says 0 0 3 noValues)) ∷

@@ -107,7 +107,7 @@ pub data Act : Type 0 where
   -- the state with some part put anew is not sound
   unsound : (System → System) → Act
   -- or is still sound, with nothing for memory to serve
-  remains : (System → System) → Act
+  stillSound : (System → System) → Act
 
 infix 68 _⇒_
 -- whether all gave what they should, and the state after
@@ -136,7 +136,7 @@ ran s (trip i ns) =
 ran s (shows f ns) = record { right = sameNumbers (f s) ns; system = s }
 ran s (drains budget buf ns after) = drainRan (drainOf s budget buf) ns after
 ran s (unsound f) = record { right = ranBy (stepped (f s) Serve) (no 1) .right; system = s }
-ran s (remains f) = record { right = ranBy (stepped (f s) Serve) (no 8) .right; system = s }
+ran s (stillSound f) = record { right = ranBy (stepped (f s) Serve) (no 8) .right; system = s }
 
 -- PARTS OF A STATE
 
