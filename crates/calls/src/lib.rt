@@ -1,11 +1,13 @@
 // The calls of a bench as functions of values: numbers in, a small struct of numbers out, and the system after.
+#![tactic(auto)]
+
 pub mod reads;
 pub mod values;
 pub mod writes;
 
 // What a drain gives back. quiet: 1 where nothing but an issue could be done.
 #[repr(C)]
-#[derive(Drop)]
+#[derive(Clone, Copy)]
 pub struct DrainGiven {
     pub number: u32,
     pub quiet: u32,
@@ -15,7 +17,7 @@ pub struct DrainGiven {
 
 // What reading the sizes gives back, and the offset past them.
 #[repr(C)]
-#[derive(Drop)]
+#[derive(Clone, Copy)]
 pub struct SizesGiven {
     pub number: u32,
     pub place: usize,
@@ -30,7 +32,7 @@ pub struct SizesGiven {
 
 // What reading a step gives back: the numbers of the step, and the offset past them. end: 1 at the record's length.
 #[repr(C)]
-#[derive(Drop)]
+#[derive(Clone, Copy)]
 pub struct StepGiven {
     pub number: u32,
     pub end: u32,
@@ -46,7 +48,7 @@ pub struct StepGiven {
 
 // What writing gives back, and the offset past what was written.
 #[repr(C)]
-#[derive(Drop)]
+#[derive(Clone, Copy)]
 pub struct WriteGiven {
     pub number: u32,
     pub place: usize,

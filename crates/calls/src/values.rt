@@ -14,14 +14,14 @@ use sound::is_sound;
 use steps::step_sound;
 
 // What is given back, and the system after it.
-#[derive(Drop)]
+#[derive(Clone, Copy)]
 pub struct Stepped {
     pub given: Given,
     pub system: System,
 }
 
 // What a drain gives back, and the system after it.
-#[derive(Drop)]
+#[derive(Clone, Copy)]
 pub struct DrainedTo {
     pub given: DrainGiven,
     pub system: System,

@@ -6,7 +6,7 @@ ghost use Rattle.codes.specs.Named.{named_by};
 use model::{Instruction, Step};
 
 // The step that six numbers name; or which of them, counted from 0, names none.
-#[derive(Drop)]
+#[derive(Clone, Copy)]
 pub enum Named {
     Known(Step),
     Unknown(usize),

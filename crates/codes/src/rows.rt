@@ -7,7 +7,7 @@ ghost use Rattle.codes.specs.Row.{row_of};
 use model::{Instruction, Step};
 
 // The first so many of six numbers.
-#[derive(Drop)]
+#[derive(Clone, Copy)]
 pub struct Row {
     pub numbers: [u32; 6],
     pub count: usize,

@@ -1,4 +1,6 @@
 // The drain: of its tries the earliest that succeeds, over and over (Drain 1, 2).
+#![tactic(auto)]
+
 mod search;
 mod stock;
 

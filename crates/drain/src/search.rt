@@ -9,7 +9,7 @@ use codes::kinds::move_of;
 use model::Step;
 
 // The first step that may be taken, if there is one.
-#[derive(Drop)]
+#[derive(Clone, Copy)]
 pub enum Found {
     First(Step),
     None,

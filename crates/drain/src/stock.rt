@@ -6,7 +6,7 @@ ghost use Rattle.drain.specs.Stock.{stock_of, standing};
 use model::System;
 
 // How many instructions wait, and how many messages are in each queue and network.
-#[derive(Drop)]
+#[derive(Clone, Copy)]
 pub struct Stock {
     pub stalls: [u8; 4],
     pub outgoing: [u8; 4],

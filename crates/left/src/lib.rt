@@ -1,4 +1,6 @@
 // What is left in a system (Replay 2c): instructions that have no answer yet, and messages under way.
+#![tactic(auto)]
+
 ghost use Rattle.std.specs.Prelude.{◌≡◌, not, ◌+◌, ◌≤◌, min, eqb, length, take};
 ghost use Rattle.lists.specs.Places.{tally};
 ghost use Rattle.model.specs.declared.Entry.{Entry};

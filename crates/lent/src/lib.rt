@@ -1,4 +1,6 @@
 // The calls that a bench links: a lent system, stepped where it stands, and records in lent bytes. Numbers in, a small struct of numbers out.
+#![tactic(auto)]
+
 ghost use Rattle.std.specs.Prelude.{◌≡◌};
 ghost use Rattle.calls.specs.Calls.{sound_call, stepped_by, fresh_call, step_call, drained_by, drain_call, read_sizes_call, read_step_call, wrote_by, write_sizes_call, write_step_call, write_record_call};
 

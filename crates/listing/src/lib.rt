@@ -1,5 +1,7 @@
 // The lines that replay prints, each written into a lent buffer. What they are is in model/specs/Replay.
 // Of each it is said too that it is short: whoever lends MOST_LINE bytes is not refused.
+#![tactic(auto)]
+
 ghost use Rattle.std.specs.Prelude.{◌≡◌, ◌++◌, ◌+◌, ◌≤◌, length, take};
 ghost use Rattle.listing.specs.Room.{most_line};
 ghost use Rattle.model.specs.Record.{written, put_at};

@@ -140,7 +140,7 @@ module _ {A : Type 0} where
       unlike same (suc i) xs ≡ (unlike same i xs && none_of (λ (x : A). same x (get_or xs i d)) i xs)
   unfolding unlike fits
   unlike_suc same i [] d h = absurd (not-suc-le-zero h)
-  unlike_suc same zero (x ∷ xs) d h = rw (each_none (λ (y : A). not (same x y)) xs, each_none (λ (y : A). not (same y x)) xs)
+  unlike_suc same zero (x ∷ xs) d h = rw (each_none (λ (y : A). not (same x y)) xs)
   unlike_suc same (suc i) (x ∷ xs) d h =
       rw (
         each_suc (λ (y : A). not (same x y)) i xs d (le_of_suc-le-suc h),

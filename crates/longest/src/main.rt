@@ -1,4 +1,6 @@
 // The longest drain: takes the steps of the record on standard input from fresh, and drains the state that they lead to, with several budgets and buffers.
+#![tactic(auto)]
+
 ghost use Rattle.std.specs.Prelude.{◌≤◌};
 
 use codes::refusals::is_done;
@@ -9,7 +11,7 @@ use record::{read_sizes, read_step};
 use steps::step;
 
 // A state, with how many steps led to it and how many of them were accepted.
-#[derive(Drop)]
+#[derive(Clone, Copy)]
 struct Reached {
     system: System,
     steps: u64,

@@ -1,5 +1,7 @@
 // The types of document 01: what a system holds, the steps, the instructions, and what an operation gives back. And the fresh system.
 // What they mean is in specs/. An array has the largest size that a system may have; a count or a size says how much is in use.
+#![tactic(auto)]
+
 ghost use Rattle.std.specs.Prelude.{◌≡◌};
 ghost use Rattle.model.specs.Limits.{within, in_limits};
 ghost use Rattle.model.specs.Fresh.{no_sizes, no_message, no_entry, no_waiting, no_place, blank, fresh_of};
@@ -12,7 +14,7 @@ pub type Value = u32;
 
 // The six sizes of a system, in document 01's order (Covers 3).
 #[repr(C)]
-#[derive(Drop)]
+#[derive(Clone, Copy)]
 pub struct Sizes {
     pub sites: u8,
     pub words: u8,
@@ -24,7 +26,7 @@ pub struct Sizes {
 
 // kind: 0 fetch, 1 write-back, 2 fetch reply, 3 acknowledgement.
 #[repr(C)]
-#[derive(Drop)]
+#[derive(Clone, Copy)]
 pub struct Message {
     pub kind: u8,
     pub site: u8,
@@ -35,7 +37,7 @@ pub struct Message {
 
 // A pend entry: what a site waits for. kind: 0 Loadl, 1 Storel, 2 Commit, 3 Reconcile, 4 voluntary.
 #[repr(C)]
-#[derive(Drop)]
+#[derive(Clone, Copy)]
 pub struct Entry {
     pub kind: u8,
     pub line: u8,
@@ -47,7 +49,7 @@ pub struct Entry {
 
 // An instruction in the stall queue, its address as a line and a word. kind: 0 Loadl, 1 Storel, 2 Commit, 3 Reconcile.
 #[repr(C)]
-#[derive(Drop)]
+#[derive(Clone, Copy)]
 pub struct Waiting {
     pub kind: u8,
     pub line: u8,
@@ -58,7 +60,7 @@ pub struct Waiting {
 
 // Where a set keeps a line (Parts 2a, 2b): its words, each with its mark Dirty or not.
 #[repr(C)]
-#[derive(Drop)]
+#[derive(Clone, Copy)]
 pub struct Place {
     pub used: bool,
     pub line: u8,
@@ -68,20 +70,20 @@ pub struct Place {
 
 // The places of one set: one.
 #[repr(C)]
-#[derive(Drop)]
+#[derive(Clone, Copy)]
 pub struct CacheSet {
     pub low: Place,
 }
 
 #[repr(C)]
-#[derive(Drop)]
+#[derive(Clone, Copy)]
 pub struct Cache {
     pub sets: [CacheSet; 8],
 }
 
 // The pend entries of a site, oldest first.
 #[repr(C)]
-#[derive(Drop)]
+#[derive(Clone, Copy)]
 pub struct Pends {
     pub entries: [Entry; 5],
     pub count: u8,
@@ -89,7 +91,7 @@ pub struct Pends {
 
 // The stall queue of a site, first in first.
 #[repr(C)]
-#[derive(Drop)]
+#[derive(Clone, Copy)]
 pub struct Stalls {
     pub waiting: [Waiting; 8],
     pub count: u8,
@@ -97,7 +99,7 @@ pub struct Stalls {
 
 // The outgoing or the incoming queue of a site.
 #[repr(C)]
-#[derive(Drop)]
+#[derive(Clone, Copy)]
 pub struct SiteQueue {
     pub items: [Message; 5],
     pub count: u8,
@@ -105,21 +107,21 @@ pub struct SiteQueue {
 
 // A network, or one of memory's two queues.
 #[repr(C)]
-#[derive(Drop)]
+#[derive(Clone, Copy)]
 pub struct Queue {
     pub items: [Message; 20],
     pub count: u8,
 }
 
 #[repr(C)]
-#[derive(Drop)]
+#[derive(Clone, Copy)]
 pub struct Line {
     pub values: [Value; 4],
 }
 
 // A system. Of what stands at the sites there is an array for each part, with an element for each site.
 #[repr(C)]
-#[derive(Drop)]
+#[derive(Clone, Copy)]
 pub struct System {
     pub sizes: Sizes,
     pub memory: [Line; 16],
@@ -136,7 +138,7 @@ pub struct System {
 }
 
 // An instruction of a processor (Steps 9).
-#[derive(Drop)]
+#[derive(Clone, Copy)]
 pub enum Instruction {
     Loadl { address: u32 },
     Storel { address: u32, value: Value },
@@ -149,7 +151,7 @@ pub enum Instruction {
 }
 
 // A step, in the order of its numbers 0 to 7 (Steps 1 to 8).
-#[derive(Drop)]
+#[derive(Clone, Copy)]
 pub enum Step {
     Issue {
         site: u32,
@@ -166,7 +168,7 @@ pub enum Step {
 }
 
 // What a processor is answered (Steps 11): the value that a Loadl read, or that another instruction is done.
-#[derive(Drop)]
+#[derive(Clone, Copy)]
 pub enum Answer {
     Nothing,
     Loaded { site: u32, tag: u32, value: Value },
@@ -174,7 +176,7 @@ pub enum Answer {
 }
 
 // Why an operation is refused (Numbers 2 to 13). The definition `number_of` gives document 01's number for each.
-#[derive(Drop)]
+#[derive(Clone, Copy)]
 pub enum Refusal {
     NotSound,
     NoSuchSite,
@@ -191,14 +193,14 @@ pub enum Refusal {
 }
 
 // What comes of an operation on a system.
-#[derive(Drop)]
+#[derive(Clone, Copy)]
 pub enum Outcome {
     Done(Answer),
     Refused(Refusal),
 }
 
 // An operation's outcome, and the system after it.
-#[derive(Drop)]
+#[derive(Clone, Copy)]
 pub struct After {
     pub outcome: Outcome,
     pub system: System,
@@ -206,7 +208,7 @@ pub struct After {
 
 // Six yes or no facts of a site that decide how it handles an instruction: is its line cached, is its word Dirty,
 // is some word of its line Dirty, does its line pend, has it no free pend entry, has it no free stall entry.
-#[derive(Drop)]
+#[derive(Clone, Copy)]
 pub struct Facts {
     pub cached: bool,
     pub dirty: bool,
@@ -217,7 +219,7 @@ pub struct Facts {
 }
 
 // What a site does with an instruction.
-#[derive(Drop)]
+#[derive(Clone, Copy)]
 pub enum Action {
     Load,
     Store,
@@ -230,7 +232,7 @@ pub enum Action {
 }
 
 // What a drain gives (Drain 3): its outcome, how many steps it took, whether the system is quiet after them, how many bytes they are, and the system.
-#[derive(Drop)]
+#[derive(Clone, Copy)]
 pub struct Drained {
     pub outcome: Outcome,
     pub count: usize,
@@ -240,14 +242,14 @@ pub struct Drained {
 }
 
 // The sizes of a record, with the offset past them.
-#[derive(Drop)]
+#[derive(Clone, Copy)]
 pub enum ReadSizes {
     Sized(Sizes, usize),
     NoSizes(Refusal),
 }
 
 // The step at an offset of a record, with the offset past it; or the record's end.
-#[derive(Drop)]
+#[derive(Clone, Copy)]
 pub enum ReadStep {
     One(Step, usize),
     End,
@@ -255,7 +257,7 @@ pub enum ReadStep {
 }
 
 // What a writer gives: the offset past the bytes written.
-#[derive(Drop)]
+#[derive(Clone, Copy)]
 pub enum Wrote {
     Past(usize),
     NotWritten(Refusal),
@@ -263,7 +265,7 @@ pub enum Wrote {
 
 // An outcome as document 01's numbers. answered: 0 no answer, 1 a value, 2 an acknowledgement.
 #[repr(C)]
-#[derive(Drop)]
+#[derive(Clone, Copy)]
 pub struct Given {
     pub number: u32,
     pub place: usize,

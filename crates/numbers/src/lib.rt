@@ -1,4 +1,6 @@
 // Numbers in bytes, seven bits in each, the lowest ones in front, and never a byte more than needed (Record 1). What they mean is in specs/.
+#![tactic(auto)]
+
 mod samples;
 
 ghost use Rattle.std.specs.Prelude.{◌≡◌, ℕ, suc, ◌+◌, ◌^◌, ◌<◌, ◌≤◌, leb, length, drop};
@@ -6,7 +8,7 @@ ghost use Rattle.std.proofs.lemmas.List.Edits.{sets};
 ghost use Rattle.numbers.specs.Groups.{bytes_of, decoded, limited, read_number, put_to, write_number};
 
 // A number, with the offset past it; or the place of what is no number.
-#[derive(Drop)]
+#[derive(Clone, Copy)]
 pub enum Got {
     Number(u32, usize),
     Fault(usize),

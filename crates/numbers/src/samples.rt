@@ -6,7 +6,7 @@ use crate::{Got, read_number, write_number};
 
 const MOST: u32 = 4294967295;
 
-#[derive(Drop)]
+#[derive(Clone, Copy)]
 struct Read {
     n127: Got,
     n128: Got,
@@ -36,7 +36,7 @@ fn samples_read() -> Read
     }
 }
 
-#[derive(Drop)]
+#[derive(Clone, Copy)]
 struct Written {
     n127: [u8; 1],
     n128: [u8; 2],

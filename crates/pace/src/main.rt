@@ -1,4 +1,6 @@
 // The pace of the step: takes the steps of the record on standard input from fresh, over and over, and writes how many were accepted. It is there to be timed.
+#![tactic(auto)]
+
 ghost use Rattle.std.specs.Prelude.{◌≡◌, true};
 ghost use Rattle.model.specs.Sound.{sound};
 

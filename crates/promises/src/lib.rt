@@ -1,1 +1,3 @@
 // What the three demands say of every run: statements in specs/, proofs in proofs/. No code.
+
+#![tactic(auto)]

@@ -1,4 +1,6 @@
 // A record, read and written: first the sizes, then steps alone (Record 2).
+#![tactic(auto)]
+
 ghost use Rattle.std.specs.Prelude.{◌≡◌};
 ghost use Rattle.model.specs.Record.{read_move, read_sizes, read_step, written, write_sizes, write_step};
 

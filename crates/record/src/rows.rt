@@ -10,7 +10,7 @@ use model::{MOST_BYTES, Refusal, Wrote};
 use numbers::{Got, number_length, read_number, write_number};
 
 // Numbers read, with the offset past them; or, where one is broken, its place.
-#[derive(Drop)]
+#[derive(Clone, Copy)]
 pub struct RowRead {
     pub numbers: [u32; 6],
     pub place: usize,

@@ -14,7 +14,7 @@ use codes::sizes::sizes_row;
 use model::{MOST_BYTES, Refusal, Sizes, Wrote};
 
 // How many bytes a record takes, cut at one more than its most; or the number from 0 of the first row that names no step.
-#[derive(Drop)]
+#[derive(Clone, Copy)]
 pub enum Measured {
     Bytes(usize),
     NoStepIn(usize),

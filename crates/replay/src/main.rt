@@ -1,4 +1,6 @@
 // Replay: a record on standard input, its listing on standard output. The contracts say what stands in the buffer; print_listing writes the buffer out.
+#![tactic(auto)]
+
 ghost use Rattle.std.specs.Prelude.{◌≡◌, true, false, ◌≤◌, length};
 ghost use Rattle.listing.specs.Room.{most_line};
 ghost use Rattle.model.specs.Limits.{in_limits};
@@ -15,7 +17,7 @@ use steps::step_sound;
 
 // How far a listing is: the system, the offset of the next step, how many steps were listed, the bytes of the buffer in use, and whether the last line is
 // among them.
-#[derive(Drop)]
+#[derive(Clone, Copy)]
 pub struct Listed {
     pub system: System,
     pub at: usize,

@@ -10,7 +10,7 @@ use model::{Instruction, Pends, Sizes, Stalls, Value, Waiting};
 use state::{pends, stalls};
 
 // An instruction taken apart: its kind, its first and last address, its value.
-#[derive(Drop)]
+#[derive(Clone, Copy)]
 pub struct Apart {
     pub kind: u8,
     pub first: u32,

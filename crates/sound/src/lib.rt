@@ -1,4 +1,6 @@
 // Whether a state is sound (Parts 9, 10): each part of it fits, and its pend entries and messages belong together one to one.
+#![tactic(auto)]
+
 ghost use Rattle.std.specs.Prelude.{◌≡◌};
 ghost use Rattle.model.specs.Sound.{sound};
 

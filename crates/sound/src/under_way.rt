@@ -9,7 +9,7 @@ ghost use Rattle.sound.specs.Naming.{near_at, name_at, tallied, one_for};
 use model::{Pends, Queue, SiteQueue};
 
 // How many messages have each name: 0 none, 1 one, 3 more.
-#[derive(Drop)]
+#[derive(Clone, Copy)]
 pub(crate) struct Names {
     of: [u8; 128],
 }

@@ -1,4 +1,6 @@
 // What a state is made of (Parts 2 to 6): queues, pend entries, stall entries and cache sets, one more in, one out, one found.
+#![tactic(auto)]
+
 pub mod pends;
 pub mod queues;
 pub mod sets;

@@ -10,7 +10,7 @@ use rules::memory::{line_after, reply_to};
 use state::queues::{net_put, net_rest, site_put, site_rest};
 
 // What came of a step from one network or queue of memory to another: the outcome, and the two after it.
-#[derive(Drop)]
+#[derive(Clone, Copy)]
 pub struct Moved {
     pub outcome: Outcome,
     pub from: Queue,
@@ -41,7 +41,7 @@ pub(crate) fn hop(from: Queue, position: u32, to: Queue) -> Moved
 }
 
 // What came of a send: the outcome, the sites' outgoing queues and the up network after it.
-#[derive(Drop)]
+#[derive(Clone, Copy)]
 pub struct Sent {
     pub outcome: Outcome,
     pub outgoing: [SiteQueue; 4],
@@ -80,7 +80,7 @@ pub(crate) fn send(sites: u8, site: u32, mut outgoing: [SiteQueue; 4], up: Queue
 }
 
 // What came of a serve: the outcome, memory and its two queues after it.
-#[derive(Drop)]
+#[derive(Clone, Copy)]
 pub struct Served {
     pub outcome: Outcome,
     pub memory: [Line; 16],
@@ -117,7 +117,7 @@ pub(crate) fn serve(mut memory: [Line; 16], arrived: Queue, served: Queue) -> Se
 }
 
 // What came of an arrive-site: the outcome, the down network and the sites' incoming queues after it.
-#[derive(Drop)]
+#[derive(Clone, Copy)]
 pub struct Reached {
     pub outcome: Outcome,
     pub down: Queue,

@@ -1,4 +1,6 @@
 // The step: of a sound state, and of any state.
+#![tactic(auto)]
+
 mod handling;
 mod here;
 mod hops;

@@ -45,7 +45,7 @@ fn waits(a: Action) -> bool
 }
 
 // Where an instruction's line is, if it is cached; what is decided of the instruction; and whether the stall queue has no room.
-#[derive(Drop)]
+#[derive(Clone, Copy)]
 struct Choice {
     place: Place,
     action: Action,

@@ -1,5 +1,7 @@
 // Reads every string of up to three bytes, millions of pseudo-random longer ones and two of the greatest length as records, and writes again each step that it
 // read. What must come out is worked out by the reader in bench/, which was written from document 01 alone.
+#![tactic(auto)]
+
 ghost use Rattle.std.specs.Prelude.{◌<◌};
 
 mod sums;
@@ -12,7 +14,7 @@ use record::{read_sizes, read_step, write_step};
 
 // What was seen of some strings: how many there were, whose sizes are good, that read to the end, the steps read, those written again as they stood, and
 // a sum over everything that the readers gave.
-#[derive(Drop)]
+#[derive(Clone, Copy)]
 pub struct Seen {
     pub strings: u64,
     pub sized: u64,
@@ -139,7 +141,7 @@ fn every_string(size: usize, count: u32) -> Seen
 }
 
 // A pseudo-random string, at the start of forty bytes, and the state of the draws after it.
-#[derive(Drop)]
+#[derive(Clone, Copy)]
 struct Random {
     bytes: [u8; 40],
     state: u64,

@@ -1,4 +1,6 @@
 // Texts, decimals and the names of the steps, written at an offset of a lent buffer.
+#![tactic(auto)]
+
 mod decimals;
 mod names;
 

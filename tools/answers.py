@@ -1,0 +1,192 @@
+#!/usr/bin/env python3
+"""Turns each proofs/F/Proof.antt of a crate into proofs/F/Invariants.antt and proofs/F/Answers.antt, once, by the names that the kit lists.
+
+usage: python3 tools/answers.py CRATE NAMES.json FOLDER
+
+NAMES.json is what `rt check --generated DIR --old-names` writes in the crate's folder. FOLDER has the Proof.antt files, laid out as in proofs/; the new files go below
+crates/CRATE/proofs. An answer that only says `search rules` is left out, since the check tries more by itself. What has no new name is printed and left as it was.
+"""
+import json
+import os
+import re
+import sys
+
+
+def plain(name):
+    """One spelling for a name of the older kit: a dash for each underscore, and no word for the kind of overflow."""
+    name = name.replace("_", "-")
+    return name[len("overflow-") :] if name.startswith("overflow-") else name
+
+
+def blocks(text):
+    """The declarations of a file, each with the comment above it; they are set apart by empty lines, or begin at the margin with a signature."""
+    out = []
+    for part in re.split(r"\n\s*\n", text.strip("\n")):
+        out.append(part)
+    return out
+
+
+class Function:
+    def __init__(self, names, key, path):
+        self.key, self.path, self.row = key, path, names[key]
+        self.goals = {}
+        for i, (old, new) in enumerate(self.row["needs"]):
+            self.goals[plain(old)] = (new, i)
+        self.steps = {}
+        for place in self.row["places"]:
+            old, new = place[2]
+            if old:
+                self.steps[plain(old)] = new
+        self.said = []
+
+    def say(self, text):
+        self.said.append(f"{self.path}: {text}")
+
+    def body(self, text, goal):
+        """Rewrites what a body cites of `c`."""
+        for m in list(re.finditer(r"let ([\w'-]+) = c(?:\.before)+ in\s*", text)):
+            text = re.sub(r"(?<![\w.'-])" + re.escape(m[1]) + r"(?=\.)", "c", text.replace(m[0], "", 1))
+        held = {}
+        for m in list(re.finditer(r"let ([\w'-]+) = c((?:\.before)*)\.([\w'-]+) in\s*", text)):
+            name = m[3]
+            if plain(name) in self.steps or name == "args":
+                text = text.replace(m[0], "", 1)
+                text = re.sub(r"(?<![\w.'-])" + re.escape(m[1]) + r"(?=\.)", "c." + name, text)
+        text = re.sub(r"(?:\.before)+(?=\.)", "", text)
+        arm = self.row["arms"][goal] if goal < len(self.row["arms"]) else None
+        if arm:
+            for new, step, path in arm[2]:
+                if path:
+                    old = r"(?<![\w.'-])c\." + re.escape(step).replace("_", "[_-]") + "".join(r"\." + re.escape(p) for p in path) + r"(?![\w'-])"
+                    text = re.sub(old, f"c.{arm[0]}.{new}", text)
+
+        def step(m):
+            name = plain(m[1])
+            if m[1] in ("args", "requires", "ranges", "well_formed", "lifetimes"):
+                return m[0]
+            if name in self.steps:
+                return "c." + self.steps[name]
+            if m[1] in self.steps.values() or arm and m[1] == arm[0]:
+                return m[0]
+            self.say(f"`{m[0]}` of {self.row['needs'][goal][1]}: no such step")
+            return m[0]
+
+        return re.sub(r"(?<![\w.'-])c\.([\w'-]+)", step, text)
+
+
+def turn(crate, names, root, path):
+    with open(path, encoding="utf-8") as f:
+        text = f.read()
+    where = os.path.relpath(os.path.dirname(path), root)
+    module = where.replace("/", ".")
+    key = f"Rattle-{crate}-proofs.{module}.Lts"
+    if where.split("/")[-1].startswith("+"):
+        key = next((k for k in names if k.startswith(f"Rattle-{crate}-proofs.{module}.Lts-")), key)
+    if key not in names:
+        print(f"{where}: no names")
+        return
+    fn = Function(names, key, where)
+    uses, invariants, answers = [], [], []
+    helpers = []
+    for block in blocks(text):
+        lines = block.split("\n")
+        comment = [l for l in lines if l.startswith("--")]
+        rest = [l for l in lines if not l.startswith("--")]
+        if not rest:
+            helpers.append(block)
+            continue
+        if rest[0].startswith("use "):
+            uses += rest
+            continue
+        whole = "\n".join(rest)
+        need = re.search(r"\.Need-([^\s]+)", whole.split(" =")[0])
+        if re.match(r"pub \+?[\w'+-]+-spec :|pub \+?[\w'+-]+_spec :", rest[0]) or re.match(r"abbrev (?:μ-|[\w-]+-(?:at|below) :)", rest[0]) and "Measures" in whole + "In 0" or re.search(r"Measures|: ℕ → In \d", rest[0]):
+            continue
+        if rest[0].startswith("abbrev invariant") or rest[0].startswith("abbrev decreases"):
+            invariants.append(block)
+            continue
+        if not need:
+            helpers.append(block)
+            continue
+        label = re.match(r"([^\s]+)", rest[0])[1]
+        old = plain(need[1])
+        if old not in fn.goals:
+            fn.say(f"goal {need[1]}: no such goal")
+            body = re.search(r"^" + re.escape(label) + r" [^=]*= ?(.*)", whole, re.S | re.M)
+            if body and body[1].strip() not in ("search rules",):
+                answers.append("-- LEFT " + need[1] + "\n" + "\n".join("-- " + l for l in whole.split("\n")))
+            continue
+        new, at = fn.goals[old]
+        eqs = re.search(r"^" + re.escape(label) + r" .*", whole[whole.index("Need-") :], re.S | re.M)
+        text_of = eqs[0]
+        m = re.match(re.escape(label) + r"((?: (?!=)[^\s]+)*) =(.*)", text_of, re.S)
+        args, body = m[1].split(), m[2]
+        if body.strip() == "search rules" and "unfolding" not in whole:
+            continue
+        if args and args[-1] == "κs":
+            args = args[:-1]
+        unfolding = re.search(r"^unfolding(?:[^\n]*|\n(?:    .*\n)+)", whole, re.M)
+        unf = ""
+        if unfolding:
+            start = whole.index("unfolding", whole.index("Need-"))
+            unf = whole[start : whole.index("\n" + label + " ", start)] + "\n"
+        out = "\n".join(comment) + ("\n" if comment else "")
+        new_body = fn.body(body, at)
+        answers.append(f"{out}pub {new} : goal.{new}\n{unf}{new} {' '.join(args)} ={new_body}")
+    base = f"crates/{crate}/proofs/{where}"
+    os.makedirs(base, exist_ok=True)
+    uses = [u for u in uses if not re.search(r"\.(Statement|Tie|Reads|Kinds|Lts-[\w]+)(\.| as|$)|borrow\.Fn\.|proofs\.\+[\w]+\.\{statement\}", u)]
+    mod = f"Rattle.{crate}.proofs.{module}"
+    loops = [r for r in fn.row["loops"]] if fn.row.get("loops") else []
+    if invariants or loops:
+        with open(base + "/Invariants.antt", "w", encoding="utf-8") as f:
+            f.write("\n".join(uses + [f"use {mod}.Given as goal"]) + "\n\n" + "\n\n".join(invariants_of(fn, invariants)) + "\n")
+    if answers:
+        with open(base + "/Answers.antt", "w", encoding="utf-8") as f:
+            f.write("\n".join(uses + [f"use {mod}.Goals as goal"]) + "\n\n" + "\n\n".join(helpers + answers) + "\n")
+    for s in fn.said:
+        print(s)
+
+
+def invariants_of(fn, parts):
+    """Each invariant and measure with its variables as fields of `l`."""
+    out = []
+    for block in parts:
+        m = re.match(r"((?:--.*\n)*)abbrev (invariant|decreases)-(\S+) : \S+\n(?:unfolding[^\n]*\n)?\2-\3((?: [^\s=]+)*) =(.*)", block, re.S)
+        if not m:
+            out.append("-- LEFT\n" + block)
+            continue
+        comment, kind, loop, args, body = m.groups()
+        new = loop_name(fn, loop)
+        for a in args.split():
+            if a == "_":
+                continue
+            to = f"l.initial.{a[:-1]}" if a.endswith("₀") else f"l.{a}"
+            body = re.sub(r"(?<![\w.'₀-])" + re.escape(a) + r"(?![\w'₀-])", to, body)
+        out.append(f"{comment}abbrev pub {kind}-{new} : goal.{kind}-{new}\n{kind}-{new} l ={body}")
+    return out
+
+
+def loop_name(fn, loop):
+    """The new name of a loop: `loop` or `loop2` of the older kit."""
+    k = int(loop[4:] or 1) - 1 if re.fullmatch(r"loop\d*", loop) else 0
+    rows = fn.row.get("loops") or []
+    if k < len(rows):
+        r = rows[k]
+        return r[1] if isinstance(r, list) and len(r) > 1 and isinstance(r[1], str) else str(r)
+    fn.say(f"loop {loop}: no such loop")
+    return loop
+
+
+def main(argv):
+    crate, names, root = argv
+    with open(names, encoding="utf-8") as f:
+        rows = json.load(f)
+    for folder, _, files in os.walk(root):
+        if "Proof.antt" in files:
+            turn(crate, rows, root, os.path.join(folder, "Proof.antt"))
+    return 0
+
+
+if __name__ == "__main__":
+    raise SystemExit(main(sys.argv[1:]))
