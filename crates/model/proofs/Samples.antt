@@ -1,50 +1,50 @@
 -- The samples hold, by computation: one refl for each.
 use mathlib.Core.Path.{refl}
 use mathlib.Core.List.{List, ◌∷◌, ◌++◌}
-use Rattle.model.specs.Sampling.{Row, row_holds, EachHolds, end, ◌▸◌}
+use Rattle.model.specs.Sampling.{Sample, holds, EachHolds, end, ◌▸◌}
 use Rattle.model.specs.Broken.{sound_samples}
 use Rattle.model.specs.Samples.{number_samples, sizes_samples, protocol_samples, issue_samples, handling_samples, take_samples, queue_samples, drain_samples, read_samples, write_samples, replay_samples, table}
 
 number_hold : EachHolds number_samples
-unfolding row_holds number_samples
+unfolding holds number_samples
 number_hold =
     refl ▸ refl ▸ refl ▸ refl ▸ refl ▸ refl ▸ refl ▸ refl ▸ refl ▸ refl ▸
     refl ▸ refl ▸ refl ▸ refl ▸ refl ▸ refl ▸ end
 
 sizes_hold : EachHolds sizes_samples
-unfolding row_holds sizes_samples
+unfolding holds sizes_samples
 sizes_hold =
     refl ▸ refl ▸ refl ▸ refl ▸ refl ▸ refl ▸ refl ▸ refl ▸ refl ▸ refl ▸
     refl ▸ refl ▸ refl ▸ refl ▸ refl ▸ refl ▸ end
 
 protocol_hold : EachHolds protocol_samples
-unfolding row_holds protocol_samples
+unfolding holds protocol_samples
 protocol_hold = refl ▸ refl ▸ refl ▸ refl ▸ refl ▸ refl ▸ end
 
 issue_hold : EachHolds issue_samples
-unfolding row_holds issue_samples
+unfolding holds issue_samples
 issue_hold = refl ▸ refl ▸ refl ▸ refl ▸ refl ▸ refl ▸ refl ▸ refl ▸ refl ▸ end
 
 handling_hold : EachHolds handling_samples
-unfolding row_holds handling_samples
+unfolding holds handling_samples
 handling_hold =
     refl ▸ refl ▸ refl ▸ refl ▸ refl ▸ refl ▸ refl ▸ refl ▸ refl ▸ refl ▸
     refl ▸ end
 
 take_hold : EachHolds take_samples
-unfolding row_holds take_samples
+unfolding holds take_samples
 take_hold = refl ▸ refl ▸ refl ▸ refl ▸ refl ▸ refl ▸ refl ▸ refl ▸ refl ▸ end
 
 queue_hold : EachHolds queue_samples
-unfolding row_holds queue_samples
+unfolding holds queue_samples
 queue_hold = refl ▸ refl ▸ refl ▸ refl ▸ end
 
 drain_hold : EachHolds drain_samples
-unfolding row_holds drain_samples
+unfolding holds drain_samples
 drain_hold = refl ▸ refl ▸ refl ▸ refl ▸ refl ▸ refl ▸ end
 
 read_hold : EachHolds read_samples
-unfolding row_holds read_samples
+unfolding holds read_samples
 read_hold =
     refl ▸ refl ▸ refl ▸ refl ▸ refl ▸ refl ▸ refl ▸ refl ▸ refl ▸ refl ▸
     refl ▸ refl ▸ refl ▸ refl ▸ refl ▸ refl ▸ refl ▸ refl ▸ refl ▸ refl ▸
@@ -52,20 +52,20 @@ read_hold =
     refl ▸ refl ▸ refl ▸ end
 
 write_hold : EachHolds write_samples
-unfolding row_holds write_samples
+unfolding holds write_samples
 write_hold =
     refl ▸ refl ▸ refl ▸ refl ▸ refl ▸ refl ▸ refl ▸ refl ▸ refl ▸ refl ▸
     refl ▸ end
 
 replay_hold : EachHolds replay_samples
-unfolding row_holds replay_samples
+unfolding holds replay_samples
 replay_hold = refl ▸ refl ▸ refl ▸ refl ▸ refl ▸ refl ▸ refl ▸ refl ▸ end
 
 sound_hold : EachHolds sound_samples
-unfolding row_holds sound_samples
+unfolding holds sound_samples
 sound_hold = refl ▸ refl ▸ refl ▸ refl ▸ refl ▸ refl ▸ refl ▸ refl ▸ refl ▸ refl ▸ refl ▸ end
 
-pub all_hold : (xs ys : List Row) → EachHolds xs → EachHolds ys → EachHolds (xs ++ ys)
+pub all_hold : (xs ys : List Sample) → EachHolds xs → EachHolds ys → EachHolds (xs ++ ys)
 all_hold xs ys end b = b
 all_hold (x ∷ xs) ys (e ▸ a) b = e ▸ all_hold xs ys a b
 

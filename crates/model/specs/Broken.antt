@@ -12,7 +12,7 @@ use Rattle.model.specs.declared.Instruction.TheVariants.{Loadl, Storel, Commit}
 use Rattle.model.specs.declared.Step.TheVariants.{Issue, Send, Serve}
 use Rattle.model.specs.Fresh.{no_values, no_marks, no_site_queue}
 use Rattle.model.specs.Parts.{site_at, put_site, with_cache, with_pends, with_stalls, with_outgoing, with_incoming, site_put, net_put, net_rest, with_memory, with_nets}
-use Rattle.model.specs.Sampling.{done, value, ack, no, Act, Row, ◌∶◌, sized, run, ◌⇒◌, trip, unsound, still_sound}
+use Rattle.model.specs.Sampling.{done, ack, no, Act, Sample, ◌∶◌, sized, run, ◌⇒◌, trip, unsound, still_sound}
 
 abbrev pub with_sizes : Sizes → System → System
 with_sizes z s = record {
@@ -110,7 +110,7 @@ busy =
     Issue 0 1 (Storel 2 5) ⇒ done ∷ trip 0 (ack 0 1) ∷ Issue 0 2 (Loadl 0) ⇒ done ∷ Issue 0 5 (Loadl 4) ⇒ done ∷ Issue 0 3 (Loadl 1) ⇒ done ∷
     Issue 0 4 (Commit 1) ⇒ done ∷ Issue 1 1 (Loadl 6) ⇒ done ∷ Send 0 ⇒ done ∷ Send 1 ⇒ done ∷ []
 
-unfoldable pub sound_samples : List Row
+unfoldable pub sound_samples : List Sample
 sound_samples =
     -- its sizes are in the table's limits, counts fit, lines are in range
     "sizes-and-counts-fit" ∶ run (sized 2 2 4 2 2 2) (busy ++ (

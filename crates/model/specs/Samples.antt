@@ -2,14 +2,14 @@
 use Rattle.std.specs.Prelude.{List, [], ◌∷◌, ◌++◌, ℕ, replicate}
 use Rattle.model.specs.declared.Instruction.TheVariants.{Loadl, Storel, Commit, Reconcile, FenceRr, FenceRw, FenceWr, FenceWw}
 use Rattle.model.specs.declared.Step.TheVariants.{Issue, Retry, Send, ArriveMemory, Serve, SendBack, ArriveSite, Take}
-use Rattle.model.specs.Sampling.{done, value, ack, no, Act, memory_line, sizes_now, pending, going, left_now, upward, downward, Row, ◌∶◌, sized}
+use Rattle.model.specs.Sampling.{done, value, ack, no, Act, memory_line, sizes_now, pending, going, left_now, upward, downward, Sample, ◌∶◌, sized}
 use Rattle.model.specs.Sampling.{sample, run, ◌⇒◌, trip, shows, drains, coded, no_number, fresh, recorded, reads_sizes, reads_step, writes_sizes, lists}
 use Rattle.model.specs.Sampling.{writes_step}
 use Rattle.model.specs.Broken.{sound_samples}
 
 -- NUMBERS
 
-unfoldable pub number_samples : List Row
+unfoldable pub number_samples : List Sample
 number_samples =
     -- 127 is `7F`, 128 is `80 01`, 300 is `Ac 02`; `80 00` is refused.
     "number-127" ∶ coded 127 (0x7F ∷ []) ∷
@@ -36,7 +36,7 @@ number_samples =
 
 -- SIZES
 
-unfoldable pub sizes_samples : List Row
+unfoldable pub sizes_samples : List Sample
 sizes_samples =
     -- 4 sites pass, 5 and 0 give 12; 16 lines pass, 17 don't. What is refused comes back as a state of all 0, which is not sound.
     "four-sites" ∶ fresh (sized 4 2 4 1 1 1) 0 (shows sizes_now (4 ∷ 2 ∷ 4 ∷ 1 ∷ 1 ∷ 1 ∷ []) ∷ Serve ⇒ no 8 ∷ []) ∷
@@ -60,7 +60,7 @@ sizes_samples =
 
 -- THE SAMPLES OF ISSUING, HANDLING AND SERVING
 
-unfoldable pub protocol_samples : List Row
+unfoldable pub protocol_samples : List Sample
 protocol_samples =
     -- the sample run of "Replay"
     "sample-run" ∶ run sample (
@@ -88,7 +88,7 @@ protocol_samples =
 
 -- MAY IT BE ISSUED, AND THE NUMBERS OF A REFUSED STEP
 
-unfoldable pub issue_samples : List Row
+unfoldable pub issue_samples : List Sample
 issue_samples =
     -- It can't after Loadl(a): Storel(a), Fence rr or rw whose first address is a. After what waits as after what pends.
     "after-loadl" ∶ run (sized 1 2 4 1 1 8) (
@@ -131,7 +131,7 @@ issue_samples =
 
 -- HANDLING
 
-unfoldable pub handling_samples : List Row
+unfoldable pub handling_samples : List Sample
 handling_samples =
     -- Loadl. If the pend entries hold this line, it must wait, though they have room.
     "loadl-waits-for-pending-line" ∶ run (sized 1 2 4 2 2 2) (
@@ -190,7 +190,7 @@ handling_samples =
 
 -- TAKE
 
-unfoldable pub take_samples : List Row
+unfoldable pub take_samples : List Sample
 take_samples =
     -- Where caching displaces another line: if all Clean, it is dropped and the entry removed. For Loadl, for Storel.
     "loadl-displaces-clean-line" ∶ run sample (
@@ -248,7 +248,7 @@ take_samples =
 
 -- QUEUES, NETWORKS AND MEMORY
 
-unfoldable pub queue_samples : List Row
+unfoldable pub queue_samples : List Sample
 queue_samples =
     -- A step may take any position; those behind it move up one. Queues are first-in first-out, and a reply goes to its message's site.
     "any-position-and-first-in-first-out" ∶ run (sized 3 1 4 1 2 1) (
@@ -303,7 +303,7 @@ from_everywhere =
     2 ∷ 2 ∷ 3 ∷ 0 ∷ 4 ∷ 5 ∷ 6 ∷ 0 ∷ 7 ∷ 2 ∷
     1 ∷ 0 ∷ 2 ∷ 0 ∷ 3 ∷ 0 ∷ 4 ∷ 5 ∷ 6 ∷ 0 ∷ 7 ∷ 0 ∷ []
 
-unfoldable pub drain_samples : List Row
+unfoldable pub drain_samples : List Sample
 drain_samples =
     -- It stops when no step is accepted. A budget of 0 asks for no room.
     "drain-of-quiet-system" ∶ run sample (drains 0 [] (0 ∷ 0 ∷ 1 ∷ 0 ∷ []) [] ∷ drains 2 (9 ∷ 9 ∷ 9 ∷ 9 ∷ []) (0 ∷ 0 ∷ 1 ∷ 0 ∷ []) (9 ∷ 9 ∷ 9 ∷ 9 ∷ []) ∷ []) ∷
@@ -335,7 +335,7 @@ drain_samples =
 
 -- READING A RECORD
 
-unfoldable pub read_samples : List Row
+unfoldable pub read_samples : List Sample
 read_samples =
     -- the 21 bytes of "Replay"
     "record-of-sample-run" ∶ recorded sample (Issue 0 7 (Loadl 3) ∷ Send 0 ∷ ArriveMemory 0 ∷ Serve ∷ SendBack ∷ ArriveSite 0 ∷ Take 0 ∷ []) (
@@ -394,7 +394,7 @@ read_samples =
 
 -- WRITING A RECORD
 
-unfoldable pub write_samples : List Row
+unfoldable pub write_samples : List Sample
 write_samples =
     -- 11: shorter than the bytes to be written. No byte is altered by a refusal, nor a byte that is not written.
     "write-sizes-short-buffer" ∶ writes_sizes sample (9 ∷ 9 ∷ 9 ∷ 9 ∷ 9 ∷ []) (11 ∷ 0 ∷ []) (9 ∷ 9 ∷ 9 ∷ 9 ∷ 9 ∷ []) ∷
@@ -413,7 +413,7 @@ write_samples =
 
 -- REPLAY
 
-unfoldable pub replay_samples : List Row
+unfoldable pub replay_samples : List Sample
 replay_samples =
     -- the sample of "Replay"
     "listing-of-sample-run" ∶ lists (
@@ -439,7 +439,7 @@ replay_samples =
 
 -- THE TABLE
 
-unfoldable pub table : List Row
+unfoldable pub table : List Sample
 table =
     number_samples ++ (sizes_samples ++ (protocol_samples ++ (issue_samples ++ (handling_samples ++ (take_samples ++
     (queue_samples ++ (drain_samples ++ (read_samples ++ (write_samples ++ (replay_samples ++ sound_samples))))))))))

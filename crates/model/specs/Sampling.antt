@@ -110,8 +110,10 @@ pub data Act : Type 0 where
   drains : ℕ → List ℕ → List ℕ → List ℕ → Act
   -- the state with some part put anew is not sound
   unsound : (System → System) → Act
-  -- or is still sound
+  -- or is still sound, with nothing for memory to serve
   still_sound : (System → System) → Act
+  -- or is still sound, whatever memory has to serve
+  stays_sound : (System → System) → Act
 
 infix 68 ◌⇒◌
 -- whether all gave what they should, and the state after
@@ -144,7 +146,8 @@ ran s (keeping f x ns) = kept (f s) f (ran_by (stepped s x) ns)
 ran s (shows f ns) = record { right = same_numbers (f s) ns; system = s }
 ran s (drains budget buf ns after) = drain_ran (drain_of s budget buf) ns after
 ran s (unsound f) = record { right = (ran_by (stepped (f s) Serve) (no 1)).right; system = s }
-ran s (still_sound f) = record { right = not (ran_by (stepped (f s) Serve) (no 1)).right; system = s }
+ran s (still_sound f) = record { right = (ran_by (stepped (f s) Serve) (no 8)).right; system = s }
+ran s (stays_sound f) = record { right = not (ran_by (stepped (f s) Serve) (no 1)).right; system = s }
 
 -- PARTS OF A STATE
 
@@ -276,10 +279,10 @@ pub data Sample : Type 0 where
   -- for each number below a bound, what is given is what is said
   for_each : ℕ → (ℕ → List ℕ) → (ℕ → List ℕ) → Sample
 
--- a row of a table: a sample under its name
+-- a row of a table: a sample with the name that pages call it by
 infix 68 ◌∶◌
-pub data Row : Type 0 where
-  ◌∶◌ : String → Sample → Row
+abbrev pub ◌∶◌ : String → Sample → Sample
+name ∶ x = x
 
 unfoldable pub all_right : System → List Act → Bool
 all_right s [] = true
@@ -301,8 +304,8 @@ unfoldable pub reads_record : ReadSizes → List ℕ → Sizes → List Step →
 reads_record (Sized z at) bs z' xs = same_numbers (sizes_given (Sized z at)) (sizes_given (Sized z' 6)) && reads_all bs at xs
 reads_record (NoSizes r) bs z' xs = false
 
--- Whoever unfolds it unfolds every definition of document 01 with it, so that a sample computes. The name is there to be shown with a refusal.
-unfoldable pub holds : String → Sample → Bool
+-- Whoever unfolds it unfolds every definition of document 01 with it, so that a sample computes.
+unfoldable pub holds : Sample → Bool
 unfolding
     all_below sum_below up_from fits array weigh unlike removed first_at count each some all_of encoded above decoded limited read_number in_limits fresh_of
     words_fit marks_fit free_place place_fits set_fits free_set seat displaced placed without anew free_message free_entry free_waiting carries message_fits
@@ -315,18 +318,18 @@ unfolding
     quiet steps_of_kind tries first_of drained drain_of same_numbers given_numbers sizes_given step_given wrote_given got_given ran_by and_then drain_numbers drain_ran
     kept ran memory_line sizes_now entry_numbers pending message_numbers queued site_queued going left_now upward downward all_right fresh_right reads_all wrote_right
     reads_record text digits name_of answer_text outcome_text listed_from listing
-holds name (coded n bs) =
+holds (coded n bs) =
     same_numbers (bytes_of n) bs && same_numbers (got_given (read_number most_number (9 ∷ bs ++ (9 ∷ [])) 1)) (0 ∷ suc (length bs) ∷ n ∷ [])
-holds name (no_number bs) = same_numbers (got_given (read_number most_number (9 ∷ bs) 1)) (10 ∷ 1 ∷ [])
-holds name (fresh z n acts) = fresh_right (fresh_of z) n acts
-holds name (standing s acts) = all_right s acts
-holds name (recorded z xs bs) = same_numbers (record_of z xs) bs && reads_record (read_sizes bs) bs z xs
-holds name (reads_sizes bs ns) = same_numbers (sizes_given (read_sizes bs)) ns
-holds name (reads_step bs at ns) = same_numbers (step_given (read_step bs at)) ns
-holds name (writes_sizes z buf ns after) = wrote_right (write_sizes z buf) ns after
-holds name (writes_step x buf at ns after) = wrote_right (write_step x buf at) ns after
-holds name (lists bs t) = same_numbers (listing bs) (text t)
-holds name (for_each n given said) = all_below n (λ k. same_numbers (given k) (said k))
+holds (no_number bs) = same_numbers (got_given (read_number most_number (9 ∷ bs) 1)) (10 ∷ 1 ∷ [])
+holds (fresh z n acts) = fresh_right (fresh_of z) n acts
+holds (standing s acts) = all_right s acts
+holds (recorded z xs bs) = same_numbers (record_of z xs) bs && reads_record (read_sizes bs) bs z xs
+holds (reads_sizes bs ns) = same_numbers (sizes_given (read_sizes bs)) ns
+holds (reads_step bs at ns) = same_numbers (step_given (read_step bs at)) ns
+holds (writes_sizes z buf ns after) = wrote_right (write_sizes z buf) ns after
+holds (writes_step x buf at ns after) = wrote_right (write_step x buf at) ns after
+holds (lists bs t) = same_numbers (listing bs) (text t)
+holds (for_each n given said) = all_below n (λ k. same_numbers (given k) (said k))
 
 abbrev pub sized : ℕ → ℕ → ℕ → ℕ → ℕ → ℕ → Sizes
 sized sites words lines sets pend stall = record { sites = sites; words = words; lines = lines; sets = sets; pend = pend; stall = stall }
@@ -338,13 +341,9 @@ sample = sized 2 2 4 1 1 1
 abbrev pub run : Sizes → List Act → Sample
 run z acts = fresh z 0 acts
 
--- EACH ROW HOLDS: where one does not, the refusal shows it
-
-unfoldable pub row_holds : Row → Bool
-unfolding holds
-row_holds (name ∶ x) = holds name x
+-- EACH SAMPLE HOLDS: where one does not, the refusal shows it
 
 infixr 20 ◌▸◌
-pub data EachHolds : List Row → Type 0 where
+pub data EachHolds : List Sample → Type 0 where
   end : EachHolds []
-  ◌▸◌ : {r : Row} {rs : List Row} → row_holds r ≡ true → EachHolds rs → EachHolds (r ∷ rs)
+  ◌▸◌ : {x : Sample} {xs : List Sample} → holds x ≡ true → EachHolds xs → EachHolds (x ∷ xs)

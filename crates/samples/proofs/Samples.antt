@@ -1,6 +1,6 @@
 -- The samples of this crate hold, by computation: one refl for each row.
 use mathlib.Core.Path.{refl}
-use Rattle.model.specs.Sampling.{row_holds, EachHolds, end, ◌▸◌}
+use Rattle.model.specs.Sampling.{holds, EachHolds, end, ◌▸◌}
 use Rattle.model.proofs.Samples.{all_hold}
 use Rattle.samples.specs.Table.{table}
 use Rattle.samples.specs.Handled.{issued_rows, retried_rows}
@@ -13,39 +13,39 @@ use Rattle.samples.specs.Listed.{listed_rows}
 use Rattle.samples.specs.Unsound.{unused_rows, word_rows, clause_rows}
 
 issued_hold : EachHolds issued_rows
-unfolding row_holds issued_rows
+unfolding holds issued_rows
 issued_hold = refl ▸ refl ▸ refl ▸ refl ▸ refl ▸ refl ▸ refl ▸ refl ▸ refl ▸ refl ▸ refl ▸ refl ▸ end
 
 retried_hold : EachHolds retried_rows
-unfolding row_holds retried_rows
+unfolding holds retried_rows
 retried_hold = refl ▸ refl ▸ refl ▸ refl ▸ refl ▸ refl ▸ refl ▸ refl ▸ end
 
 carried_hold : EachHolds carried_rows
-unfolding row_holds carried_rows
+unfolding holds carried_rows
 carried_hold = refl ▸ refl ▸ refl ▸ refl ▸ refl ▸ refl ▸ refl ▸ refl ▸ refl ▸ end
 
 took_hold : EachHolds took_rows
-unfolding row_holds took_rows
+unfolding holds took_rows
 took_hold = refl ▸ refl ▸ refl ▸ refl ▸ refl ▸ refl ▸ refl ▸ refl ▸ refl ▸ refl ▸ refl ▸ end
 
 kept_hold : EachHolds kept_rows
-unfolding row_holds kept_rows
+unfolding holds kept_rows
 kept_hold = refl ▸ refl ▸ end
 
 order_hold : EachHolds order_rows
-unfolding row_holds order_rows
+unfolding holds order_rows
 order_hold = refl ▸ refl ▸ refl ▸ refl ▸ refl ▸ refl ▸ refl ▸ refl ▸ end
 
 address_hold : EachHolds address_rows
-unfolding row_holds address_rows
+unfolding holds address_rows
 address_hold = refl ▸ refl ▸ refl ▸ refl ▸ refl ▸ end
 
 quiet_hold : EachHolds quiet_rows
-unfolding row_holds quiet_rows
+unfolding holds quiet_rows
 quiet_hold = refl ▸ refl ▸ end
 
 step_fault_hold : EachHolds step_fault_rows
-unfolding row_holds step_fault_rows
+unfolding holds step_fault_rows
 step_fault_hold =
     refl ▸ refl ▸ refl ▸ refl ▸ refl ▸ refl ▸ refl ▸ refl ▸ refl ▸ refl ▸
     refl ▸ refl ▸ refl ▸ refl ▸ refl ▸ refl ▸ refl ▸ refl ▸ refl ▸ refl ▸
@@ -55,31 +55,31 @@ step_fault_hold =
     refl ▸ refl ▸ refl ▸ refl ▸ end
 
 above_hold : EachHolds above_rows
-unfolding row_holds above_rows
+unfolding holds above_rows
 above_hold = refl ▸ refl ▸ refl ▸ refl ▸ end
 
 sizes_fault_hold : EachHolds sizes_fault_rows
-unfolding row_holds sizes_fault_rows
+unfolding holds sizes_fault_rows
 sizes_fault_hold = refl ▸ refl ▸ refl ▸ refl ▸ refl ▸ refl ▸ refl ▸ end
 
 long_hold : EachHolds long_rows
-unfolding row_holds long_rows
+unfolding holds long_rows
 long_hold = refl ▸ refl ▸ refl ▸ refl ▸ refl ▸ refl ▸ refl ▸ refl ▸ end
 
 listed_hold : EachHolds listed_rows
-unfolding row_holds listed_rows
+unfolding holds listed_rows
 listed_hold = refl ▸ refl ▸ refl ▸ refl ▸ refl ▸ refl ▸ refl ▸ end
 
 unused_hold : EachHolds unused_rows
-unfolding row_holds unused_rows
+unfolding holds unused_rows
 unused_hold = refl ▸ refl ▸ refl ▸ refl ▸ refl ▸ refl ▸ refl ▸ refl ▸ refl ▸ end
 
 word_hold : EachHolds word_rows
-unfolding row_holds word_rows
+unfolding holds word_rows
 word_hold = refl ▸ refl ▸ refl ▸ end
 
 clause_hold : EachHolds clause_rows
-unfolding row_holds clause_rows
+unfolding holds clause_rows
 clause_hold = refl ▸ refl ▸ refl ▸ refl ▸ refl ▸ refl ▸ refl ▸ refl ▸ refl ▸ refl ▸ refl ▸ refl ▸ end
 
 -- every row of the table holds

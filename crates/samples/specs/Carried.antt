@@ -5,7 +5,7 @@ use Rattle.model.specs.declared.Step.TheVariants.{Issue, Send, ArriveMemory, Ser
 use Rattle.model.specs.Fresh.{no_values, no_marks, no_place}
 use Rattle.model.specs.declared.Message.{Message}
 use Rattle.model.specs.declared.System.{System}
-use Rattle.model.specs.Sampling.{done, no, Act, Row, ◌∶◌, ◌⇒◌, shows, keeping, standing, memory_line, memory_now, sizes_now, arrived_now, served_now, down_now, up_now}
+use Rattle.model.specs.Sampling.{done, no, Act, Sample, ◌∶◌, ◌⇒◌, shows, keeping, standing, memory_line, memory_now, sizes_now, arrived_now, served_now, down_now, up_now}
 use Rattle.samples.specs.Scene.{words, marks, fetch_by, write_back_by, fetch_reply_to, ack_to, scene, going_out, coming_in, up_is, arrived_is, served_is, down_is, framed, queues, insides, all_queues, to_memory, from_memory, site_whole, inside}
 
 -- the messages of the scene that are not alike in any field
@@ -34,7 +34,7 @@ except_from_memory s = sizes_now s ++ (framed (memory_now s) ++ (insides s ++ (a
 abbrev pub except_arrive_site : ℕ → ℕ → System → List ℕ
 except_arrive_site j k s = sizes_now s ++ (framed (memory_now s) ++ (insides s ++ (queues j s ++ (queues k s ++ (framed (served_now s) ++ to_memory s)))))
 
-unfoldable pub carried_rows : List Row
+unfoldable pub carried_rows : List Sample
 carried_rows =
     "send-carries-every-field" ∶ standing scene (
     keeping (except_send 1 2) (Send 0) done ∷ going_out 0 [] ∷ coming_in 0 [] ∷ up_is (writes1 ∷ fetch_by 0 2 ∷ writes0 ∷ []) ∷ []) ∷

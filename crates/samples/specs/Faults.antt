@@ -2,7 +2,7 @@
 use Rattle.std.specs.Prelude.{List, [], ◌∷◌, ◌++◌, ℕ, suc, ◌+◌, ◌-◌, replicate, length, take, drop}
 use Rattle.model.specs.declared.Step.TheVariants.{Serve, Send}
 use Rattle.model.specs.Record.{read_sizes, read_step}
-use Rattle.model.specs.Sampling.{Sample, Row, ◌∶◌, for_each, reads_sizes, reads_step, writes_step, sizes_given, step_given}
+use Rattle.model.specs.Sampling.{Sample, ◌∶◌, for_each, reads_sizes, reads_step, writes_step, sizes_given, step_given}
 
 -- FAULTY NUMBERS
 
@@ -39,7 +39,7 @@ cut_in_each step = for_each (length step) (λ k. step_with step k goes_on []) pl
 abbrev pub cut_before_each : List ℕ → Sample
 cut_before_each step = for_each (length step - 1) (λ k. step_with step (suc k) [] []) (λ k. placed (suc k))
 
-unfoldable pub step_fault_rows : List Row
+unfoldable pub step_fault_rows : List Sample
 step_fault_rows =
     "loadl-number-not-shortest" ∶ fault_in_each (0 ∷ 1 ∷ 0 ∷ 3 ∷ 4 ∷ []) not_shortest ∷
     "loadl-number-too-large" ∶ fault_in_each (0 ∷ 1 ∷ 0 ∷ 3 ∷ 4 ∷ []) too_large ∷
@@ -99,7 +99,7 @@ step_fault_rows =
 
 -- A NUMBER ABOVE 7
 
-unfoldable pub above_rows : List Row
+unfoldable pub above_rows : List Sample
 above_rows =
     "every-step-number-above-7" ∶ for_each 120 (λ k. step_given (read_step (4 ∷ (8 + k) ∷ 1 ∷ 1 ∷ 1 ∷ 1 ∷ 1 ∷ []) 1)) (λ k. 10 ∷ 1 ∷ []) ∷
     "every-instruction-number-above-7" ∶ for_each 120 (λ k. step_given (read_step (4 ∷ 0 ∷ 1 ∷ (8 + k) ∷ 1 ∷ 1 ∷ 1 ∷ []) 1)) (λ k. 10 ∷ 3 ∷ []) ∷
@@ -117,7 +117,7 @@ sizes_with k number behind = sizes_given (read_sizes (take k (4 ∷ 3 ∷ 16 ∷
 abbrev pub sizes_behind : ℕ → List ℕ
 sizes_behind k = drop (suc k) (4 ∷ 3 ∷ 16 ∷ 7 ∷ 5 ∷ 8 ∷ [])
 
-unfoldable pub sizes_fault_rows : List Row
+unfoldable pub sizes_fault_rows : List Sample
 sizes_fault_rows =
     "size-not-shortest" ∶ for_each 6 (λ k. sizes_with k not_shortest (sizes_behind k)) (λ k. 10 ∷ k ∷ []) ∷
     "size-too-large-for-a-number" ∶ for_each 6 (λ k. sizes_with k too_large (sizes_behind k)) (λ k. 10 ∷ k ∷ []) ∷
@@ -130,7 +130,7 @@ sizes_fault_rows =
 
 -- 13 BEFORE 10 AND 12; 13 BEFORE 11
 
-unfoldable pub long_rows : List Row
+unfoldable pub long_rows : List Sample
 long_rows =
     "long-record-before-size-outside" ∶ reads_sizes (replicate 65537 0x09) (13 ∷ 65536 ∷ []) ∷
     "long-record-before-good-sizes" ∶ reads_sizes (replicate 65537 0x01) (13 ∷ 65536 ∷ []) ∷

@@ -3,7 +3,7 @@ use Rattle.std.specs.Prelude.{List, [], ◌∷◌, ◌++◌, true, false}
 use Rattle.model.specs.declared.Instruction.TheVariants.{Loadl, Storel, Commit, Reconcile, FenceRr, FenceRw, FenceWr, FenceWw}
 use Rattle.model.specs.declared.Step.TheVariants.{Issue, Retry, Send, ArriveMemory, Serve, SendBack, ArriveSite, Take}
 use Rattle.model.specs.Fresh.{no_values, no_marks, no_place}
-use Rattle.model.specs.Sampling.{done, value, ack, no, Act, Row, ◌∶◌, ◌⇒◌, shows, keeping, standing, memory_line}
+use Rattle.model.specs.Sampling.{done, value, ack, no, Act, Sample, ◌∶◌, ◌⇒◌, shows, keeping, standing, memory_line}
 use Rattle.model.specs.Broken.{with_waiting}
 use Rattle.samples.specs.Scene.{words, marks, place, entry, waits, fetch_by, write_back_by, entries2, scene, cached_at, pending_at, waiting_at, going_out, coming_in, everything, beside}
 
@@ -16,7 +16,7 @@ cached2 = cached_at 2 (place 9 (marks false true false true) (words 91 92 93 94)
 abbrev pub waiting2 : Act
 waiting2 = waiting_at 2 (waits 1 2 1 23 203 ∷ waits 3 6 2 24 0 ∷ [])
 
-unfoldable pub issued_rows : List Row
+unfoldable pub issued_rows : List Sample
 issued_rows =
     "loadl-hit-of-each-word" ∶ standing scene (
     keeping everything (Issue 2 31 (Loadl 36)) (value 2 31 91) ∷ keeping everything (Issue 2 31 (Loadl 37)) (value 2 31 92) ∷
@@ -72,7 +72,7 @@ issued_rows =
 abbrev pub behind2 : Act
 behind2 = waiting_at 2 (waits 3 6 2 24 0 ∷ [])
 
-unfoldable pub retried_rows : List Row
+unfoldable pub retried_rows : List Sample
 retried_rows =
     "retry-answers-a-loadl" ∶ standing (with_waiting 2 0 (waits 0 9 3 23 0) scene) (
     keeping (beside 0 1) (Retry 2) (value 2 23 94) ∷ behind2 ∷ cached2 ∷ pending_at 2 entries2 ∷ going_out 2 (fetch_by 2 2 ∷ []) ∷ coming_in 2 [] ∷ []) ∷

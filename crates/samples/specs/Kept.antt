@@ -2,11 +2,11 @@
 use Rattle.std.specs.Prelude.{List, [], ◌∷◌}
 use Rattle.model.specs.declared.Instruction.TheVariants.{Loadl, FenceWr, FenceWw}
 use Rattle.model.specs.declared.Step.TheVariants.{Issue, Retry, Send, ArriveMemory, ArriveSite, Take}
-use Rattle.model.specs.Sampling.{no, Row, ◌∶◌, shows, keeping, standing, left_now}
+use Rattle.model.specs.Sampling.{no, Sample, ◌∶◌, shows, keeping, standing, left_now}
 use Rattle.model.specs.Sampling.{cache_of, entries_of, waiting_of, outgoing_of, incoming_of, up_now, arrived_now, served_now, down_now}
 use Rattle.samples.specs.Scene.{scene, everything}
 
-unfoldable pub kept_rows : List Row
+unfoldable pub kept_rows : List Sample
 kept_rows =
     -- what the views show: used, line, marks, words; kind, line, word, tag, value, words; kind, line, word, tag, value; kind, site, line, marks, words
     "scene-in-numbers" ∶ standing scene (

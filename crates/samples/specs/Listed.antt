@@ -1,8 +1,8 @@
 -- Listings: every step name done and refused, answers whose numbers are all different, what is left in every place, and faults.
 use Rattle.std.specs.Prelude.{List, [], ◌∷◌}
-use Rattle.model.specs.Sampling.{Row, ◌∶◌, lists}
+use Rattle.model.specs.Sampling.{Sample, ◌∶◌, lists}
 
-unfoldable pub listed_rows : List Row
+unfoldable pub listed_rows : List Sample
 listed_rows =
     -- each place has one message, one instruction waits
     "listing-left-in-all-six-places" ∶ lists (

@@ -4,7 +4,7 @@ use Rattle.model.specs.declared.System.{System}
 use Rattle.model.specs.declared.Instruction.TheVariants.{Loadl, Storel, Commit, Reconcile, FenceRr, FenceRw, FenceWr, FenceWw}
 use Rattle.model.specs.declared.Step.TheVariants.{Issue, Retry, Send, ArriveMemory, Serve, SendBack, ArriveSite, Take}
 use Rattle.model.specs.Fresh.{no_values}
-use Rattle.model.specs.Sampling.{done, value, ack, no, Act, Row, ◌∶◌, ◌⇒◌, trip, shows, drains, unsound, still_sound, standing, run, sized, cache_of, memory_now}
+use Rattle.model.specs.Sampling.{done, value, ack, no, Act, Sample, ◌∶◌, ◌⇒◌, trip, shows, drains, unsound, stays_sound, standing, run, sized, cache_of, memory_now}
 use Rattle.model.specs.Broken.{with_line, with_place, clean}
 use Rattle.samples.specs.Scene.{words, scene}
 
@@ -16,7 +16,7 @@ not_sound = with_line 12 (words 1 0 0 0) scene
 abbrev pub crowded : List Act
 crowded = Issue 2 31 (Loadl 27) ⇒ done ∷ Issue 2 33 (Loadl 23) ⇒ done ∷ []
 
-unfoldable pub order_rows : List Row
+unfoldable pub order_rows : List Sample
 order_rows =
     "not-sound-before-any-other-refusal" ∶ standing not_sound (
     Issue 3 31 (Loadl 0) ⇒ no 1 ∷ Issue 2 31 (Loadl 48) ⇒ no 1 ∷ Issue 2 21 (Loadl 36) ⇒ no 1 ∷ Issue 2 31 (Loadl 11) ⇒ no 1 ∷
@@ -34,7 +34,7 @@ order_rows =
     "no-site-before-empty-queue" ∶ standing scene (Retry 3 ⇒ no 2 ∷ Send 3 ⇒ no 2 ∷ Take 3 ⇒ no 2 ∷ Send 4294967295 ⇒ no 2 ∷ []) ∷
     []
 
-unfoldable pub address_rows : List Row
+unfoldable pub address_rows : List Sample
 address_rows =
     "first-address-past-the-last" ∶ standing scene (
     Issue 2 31 (Loadl 48) ⇒ no 4 ∷ Issue 2 31 (Storel 48 0) ⇒ no 4 ∷ Issue 2 31 (Commit 48) ⇒ no 4 ∷ Issue 2 31 (Reconcile 48) ⇒ no 4 ∷
@@ -52,7 +52,7 @@ address_rows =
     0 ∷ 0 ∷ 0 ∷ 0 ∷ 0 ∷ 0 ∷ 0 ∷ 0 ∷ 0 ∷ 0 ∷ 1 ∷ 1 ∷ 0 ∷ 0 ∷ 0 ∷ 0 ∷ 0 ∷ 0 ∷ 0 ∷ 0 ∷ 1 ∷ 2 ∷ 0 ∷ 1 ∷ 0 ∷ 0 ∷ 0 ∷ 9 ∷ 0 ∷ 0 ∷
     0 ∷ 0 ∷ 0 ∷ 0 ∷ 0 ∷ 0 ∷ 0 ∷ 0 ∷ 0 ∷ 0 ∷ 0 ∷ 0 ∷ 0 ∷ 0 ∷ 0 ∷ 0 ∷ 0 ∷ 0 ∷ 0 ∷ 0 ∷ 0 ∷ 0 ∷ 0 ∷ 0 ∷ 0 ∷ 0 ∷ 0 ∷ 0 ∷ 0 ∷ 0 ∷
     0 ∷ 0 ∷ 0 ∷ 0 ∷ 0 ∷ 0 ∷ 0 ∷ 0 ∷ 0 ∷ 0 ∷ 0 ∷ 0 ∷ 0 ∷ 0 ∷ 0 ∷ 0 ∷ 0 ∷ 0 ∷ 0 ∷ 0 ∷ []) ∷
-    still_sound (with_place 0 2 (clean 2 no_values)) ∷ unsound (with_place 0 5 (clean 5 no_values)) ∷ unsound (with_place 0 5 (clean 2 no_values)) ∷
+    stays_sound (with_place 0 2 (clean 2 no_values)) ∷ unsound (with_place 0 5 (clean 5 no_values)) ∷ unsound (with_place 0 5 (clean 2 no_values)) ∷
     unsound (with_place 0 3 (clean 0 no_values)) ∷ []) ∷
     "fewer-sets-than-lines" ∶ run (sized 1 1 16 5 2 2) (
     Issue 0 5 (Storel 13 9) ⇒ done ∷ trip 0 (ack 0 5) ∷ Issue 0 5 (Storel 14 8) ⇒ done ∷ trip 0 (ack 0 5) ∷ Issue 0 5 (Loadl 13) ⇒ value 0 5 9 ∷
@@ -68,7 +68,7 @@ not_quiet = drains 0 [] (0 ∷ 0 ∷ 0 ∷ 0 ∷ []) []
 abbrev pub now_quiet : Act
 now_quiet = drains 0 [] (0 ∷ 0 ∷ 1 ∷ 0 ∷ []) []
 
-unfoldable pub quiet_rows : List Row
+unfoldable pub quiet_rows : List Sample
 quiet_rows =
     "one-step-left-is-not-quiet" ∶ run (sized 3 2 4 1 1 1) (
     now_quiet ∷ Issue 2 1 (Loadl 0) ⇒ done ∷ Issue 2 2 (Loadl 1) ⇒ done ∷ not_quiet ∷ Send 2 ⇒ done ∷ not_quiet ∷ ArriveMemory 0 ⇒ done ∷ not_quiet ∷

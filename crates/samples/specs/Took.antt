@@ -4,7 +4,7 @@ use Rattle.model.specs.declared.Step.TheVariants.{Serve, SendBack, ArriveSite, T
 use Rattle.model.specs.Fresh.{no_values, no_marks, no_place}
 use Rattle.model.specs.declared.Entry.{Entry}
 use Rattle.model.specs.declared.Place.{Place}
-use Rattle.model.specs.Sampling.{done, value, ack, no, Act, Row, ◌∶◌, ◌⇒◌, keeping, standing}
+use Rattle.model.specs.Sampling.{done, value, ack, no, Act, Sample, ◌∶◌, ◌⇒◌, keeping, standing}
 use Rattle.model.specs.Broken.{with_place}
 use Rattle.samples.specs.Scene.{words, marks, place, entry, waits, fetch_by, write_back_by, fetch_reply_to, ack_to, entries0, scene, cached_at, pending_at, waiting_at, going_out, coming_in, beside}
 
@@ -28,7 +28,7 @@ loaded = place 0 no_marks (words 5 6 7 8)
 abbrev pub committed : Place
 committed = place 6 no_marks (words 61 62 63 64)
 
-unfoldable pub took_rows : List Row
+unfoldable pub took_rows : List Sample
 took_rows =
     "take-loadl-and-write-back-old-line" ∶ standing scene (
     keeping (beside 0 2) (Take 1) (value 1 11 7) ∷ cached_at 1 loaded seven five ∷ pending_at 1 (entry 4 3 0 0 0 no_values ∷ behind1) ∷

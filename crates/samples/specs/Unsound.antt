@@ -10,7 +10,7 @@ use Rattle.model.specs.declared.SiteQueue.{SiteQueue}
 use Rattle.model.specs.declared.System.{System}
 use Rattle.model.specs.Fresh.{no_values, no_marks}
 use Rattle.model.specs.Parts.{site_at, put_site, with_cache, with_pends, with_stalls, with_outgoing, with_incoming, net_put, net_rest, site_put, site_rest, with_memory, with_nets}
-use Rattle.model.specs.Sampling.{no, Act, Row, ◌∶◌, ◌⇒◌, unsound, still_sound, standing, run, sized}
+use Rattle.model.specs.Sampling.{no, Act, Sample, ◌∶◌, ◌⇒◌, unsound, stays_sound, standing, run, sized}
 use Rattle.model.specs.Broken.{with_line, with_waiting, with_entry, with_going, with_place, busy}
 use Rattle.samples.specs.Scene.{words, marks, place, entry, waits, message, fetch_by, write_back_by, fetch_reply_to, ack_to, scene}
 
@@ -84,7 +84,7 @@ stray = message 0 0 1 no_marks no_values
 
 -- PLACES NOT IN USE
 
-unfoldable pub unused_rows : List Row
+unfoldable pub unused_rows : List Sample
 unused_rows =
     "every-unused-place-of-the-networks" ∶ standing scene (all_of 4 (λ k. unsound_all (λ p s. with_item k p stray s) (up_from 2 18))) ∷
     "every-field-of-an-unused-message" ∶ standing scene (
@@ -119,11 +119,11 @@ going0 m e s = with_going 0 0 m (with_entry 0 1 e s)
 abbrev pub replied1 : List ℕ → System → System
 replied1 vs s = with_nets s (net_rest s.up 1) s.arrived s.served (net_put s.down (fetch_reply_to 1 3 vs))
 
-unfoldable pub word_rows : List Row
+unfoldable pub word_rows : List Sample
 word_rows =
     "words-and-marks-of-a-line-in-use" ∶ run (sized 2 2 4 2 2 2) (busy ++ (
-    still_sound (with_place 0 1 (place 1 (marks true true false false) (words 1 2 0 0))) ∷ still_sound (with_line 3 (words 1 2 0 0)) ∷
-    still_sound (going0 (write_back_by 0 2 (marks true true false false) (words 1 2 0 0)) (entry 2 2 1 5 0 (words 1 2 0 0))) ∷ still_sound (replied1 (words 1 2 0 0)) ∷ [])) ∷
+    stays_sound (with_place 0 1 (place 1 (marks true true false false) (words 1 2 0 0))) ∷ stays_sound (with_line 3 (words 1 2 0 0)) ∷
+    stays_sound (going0 (write_back_by 0 2 (marks true true false false) (words 1 2 0 0)) (entry 2 2 1 5 0 (words 1 2 0 0))) ∷ stays_sound (replied1 (words 1 2 0 0)) ∷ [])) ∷
     "every-word-past-the-words" ∶ run (sized 2 2 4 2 2 2) (busy ++ (
     unsound_all (λ k s. with_place 0 1 (place 1 no_marks (word_at k)) s) (up_from 2 2) ++ (unsound_all (λ k s. with_place 0 1 (place 1 (mark_at k) no_values) s) (up_from 2 2) ++
     (all_of 4 (λ L. unsound_all (λ k s. with_line L (word_at k) s) (up_from 2 2)) ++
@@ -150,36 +150,36 @@ word_rows =
 abbrev pub kind2 : ℕ → Message → System → System
 kind2 k m s = with_going 2 0 m (with_entry 2 0 (entry k 2 0 0 0 no_values) s)
 
-unfoldable pub clause_rows : List Row
+unfoldable pub clause_rows : List Sample
 clause_rows =
     "kind-of-entry-and-of-message" ∶ standing scene (
-    still_sound (kind2 0 (fetch_by 2 2)) ∷ still_sound (kind2 1 (fetch_by 2 2)) ∷ unsound (kind2 2 (fetch_by 2 2)) ∷ unsound (kind2 3 (fetch_by 2 2)) ∷ unsound (kind2 4 (fetch_by 2 2)) ∷
-    unsound (kind2 0 (write_back_by 2 2 no_marks no_values)) ∷ unsound (kind2 1 (write_back_by 2 2 no_marks no_values)) ∷ still_sound (kind2 2 (write_back_by 2 2 no_marks no_values)) ∷
-    still_sound (kind2 3 (write_back_by 2 2 no_marks no_values)) ∷ still_sound (kind2 4 (write_back_by 2 2 no_marks no_values)) ∷ unsound (kind2 5 (write_back_by 2 2 no_marks no_values)) ∷
+    stays_sound (kind2 0 (fetch_by 2 2)) ∷ stays_sound (kind2 1 (fetch_by 2 2)) ∷ unsound (kind2 2 (fetch_by 2 2)) ∷ unsound (kind2 3 (fetch_by 2 2)) ∷ unsound (kind2 4 (fetch_by 2 2)) ∷
+    unsound (kind2 0 (write_back_by 2 2 no_marks no_values)) ∷ unsound (kind2 1 (write_back_by 2 2 no_marks no_values)) ∷ stays_sound (kind2 2 (write_back_by 2 2 no_marks no_values)) ∷
+    stays_sound (kind2 3 (write_back_by 2 2 no_marks no_values)) ∷ stays_sound (kind2 4 (write_back_by 2 2 no_marks no_values)) ∷ unsound (kind2 5 (write_back_by 2 2 no_marks no_values)) ∷
     unsound (kind2 5 (fetch_by 2 2)) ∷ []) ∷
     "kind-past-the-last" ∶ standing scene (
     unsound (with_going 2 0 (message 4 2 2 no_marks no_values)) ∷ unsound (with_item 0 1 (message 4 0 2 no_marks no_values)) ∷ unsound (with_item 1 1 (message 4 0 8 no_marks no_values)) ∷
     unsound (with_item 2 0 (message 4 0 5 no_marks no_values)) ∷ unsound (with_item 3 0 (message 5 2 6 no_marks no_values)) ∷ unsound (with_coming 1 0 (message 4 1 0 no_marks no_values)) ∷
-    unsound (with_waiting 2 0 (waits 4 7 1 23 0)) ∷ unsound (with_waiting 2 0 (waits 7 7 1 23 0)) ∷ still_sound (with_waiting 2 0 (waits 3 7 1 23 0)) ∷ []) ∷
+    unsound (with_waiting 2 0 (waits 4 7 1 23 0)) ∷ unsound (with_waiting 2 0 (waits 7 7 1 23 0)) ∷ stays_sound (with_waiting 2 0 (waits 3 7 1 23 0)) ∷ []) ∷
     "address-in-range" ∶ standing scene (
-    still_sound (with_waiting 2 0 (waits 1 11 3 23 203)) ∷ unsound (with_waiting 2 0 (waits 1 12 1 23 203)) ∷ unsound (with_waiting 2 0 (waits 1 2 4 23 203)) ∷
+    stays_sound (with_waiting 2 0 (waits 1 11 3 23 203)) ∷ unsound (with_waiting 2 0 (waits 1 12 1 23 203)) ∷ unsound (with_waiting 2 0 (waits 1 2 4 23 203)) ∷
     unsound (with_entry 2 0 (entry 1 2 4 21 201 no_values)) ∷ unsound (λ s. with_going 2 0 (fetch_by 2 12) (with_entry 2 0 (entry 1 12 3 21 201 no_values) s)) ∷
-    still_sound (λ s. with_going 2 0 (fetch_by 2 10) (with_entry 2 0 (entry 1 10 3 21 201 no_values) s)) ∷ unsound (with_place 2 0 (place 12 no_marks no_values)) ∷ []) ∷
+    stays_sound (λ s. with_going 2 0 (fetch_by 2 10) (with_entry 2 0 (entry 1 10 3 21 201 no_values) s)) ∷ unsound (with_place 2 0 (place 12 no_marks no_values)) ∷ []) ∷
     -- not two under one tag: both waiting, both pending, one of each; a voluntary entry has none, and another site's count there
     "tags-of-one-site-differ" ∶ standing scene (
     unsound (with_waiting 2 1 (waits 3 6 2 23 0)) ∷ unsound (with_entry 2 1 (entry 2 6 1 21 0 (words 61 62 63 64))) ∷ unsound (with_entry 1 3 (entry 1 8 1 11 208 no_values)) ∷
     unsound (with_waiting 2 0 (waits 1 2 1 22 203)) ∷ unsound (with_waiting 2 1 (waits 3 6 2 21 0)) ∷ unsound (with_waiting 1 0 (waits 2 0 1 14 0)) ∷
-    still_sound (with_waiting 2 0 (waits 1 2 1 0 203)) ∷ still_sound (with_entry 2 0 (entry 1 2 3 0 201 no_values)) ∷ still_sound (with_waiting 2 0 (waits 1 2 1 11 203)) ∷
-    still_sound (with_entry 2 0 (entry 1 2 3 13 201 no_values)) ∷ []) ∷
+    stays_sound (with_waiting 2 0 (waits 1 2 1 0 203)) ∷ stays_sound (with_entry 2 0 (entry 1 2 3 0 201 no_values)) ∷ stays_sound (with_waiting 2 0 (waits 1 2 1 11 203)) ∷
+    stays_sound (with_entry 2 0 (entry 1 2 3 13 201 no_values)) ∷ []) ∷
     "two-entries-for-one-line" ∶ standing scene (
     unsound (λ s. with_item 2 1 (ack_to 2 2) (with_entry 2 2 (entry 4 2 0 0 0 no_values) s)) ∷
-    still_sound (λ s. with_item 2 1 (ack_to 2 8) (with_entry 2 2 (entry 4 8 0 0 0 no_values) s)) ∷ []) ∷
+    stays_sound (λ s. with_item 2 1 (ack_to 2 8) (with_entry 2 2 (entry 4 8 0 0 0 no_values) s)) ∷ []) ∷
     "cached-and-pending" ∶ standing scene (
     unsound (with_place 2 2 (place 2 no_marks no_values)) ∷ unsound (with_place 2 0 (place 6 no_marks no_values)) ∷ unsound (with_place 2 2 (place 11 no_marks no_values)) ∷
-    still_sound (with_place 2 2 (place 8 no_marks no_values)) ∷ still_sound (with_place 1 2 (place 2 no_marks no_values)) ∷ unsound (with_place 1 2 (place 8 no_marks no_values)) ∷ []) ∷
+    stays_sound (with_place 2 2 (place 8 no_marks no_values)) ∷ stays_sound (with_place 1 2 (place 2 no_marks no_values)) ∷ unsound (with_place 1 2 (place 8 no_marks no_values)) ∷ []) ∷
     "line-in-its-set" ∶ standing scene (
-    still_sound (with_place 2 0 (place 3 no_marks no_values)) ∷ unsound (with_place 2 0 (place 4 no_marks no_values)) ∷ unsound (with_place 2 0 (place 7 no_marks no_values)) ∷
-    unsound (with_place 2 2 (place 9 no_marks no_values)) ∷ still_sound (with_place 2 2 (place 5 no_marks no_values)) ∷ []) ∷
+    stays_sound (with_place 2 0 (place 3 no_marks no_values)) ∷ unsound (with_place 2 0 (place 4 no_marks no_values)) ∷ unsound (with_place 2 0 (place 7 no_marks no_values)) ∷
+    unsound (with_place 2 2 (place 9 no_marks no_values)) ∷ stays_sound (with_place 2 2 (place 5 no_marks no_values)) ∷ []) ∷
     -- a second message for site 2's first entry, in each of the six places
     "second-message-for-an-entry" ∶ standing scene (
     unsound (one_more_out (fetch_by 2 2)) ∷ unsound (one_more 0 (fetch_by 2 2)) ∷ unsound (one_more 1 (fetch_by 2 2)) ∷ unsound (one_more 2 (fetch_reply_to 2 2 no_values)) ∷
@@ -197,7 +197,7 @@ clause_rows =
     unsound (λ s. one_more_in (fetch_reply_to 1 8 no_values) (with_nets s s.up s.arrived s.served (net_rest s.down 1))) ∷ []) ∷
     "counts-past-the-sizes" ∶ standing scene (
     unsound (λ s. one_more 0 (fetch_by 0 11) (put_site s 0 (with_pends (site_at s 0) 5 (set (site_at s 0).entries 4 (entry 0 11 1 9 0 no_values))))) ∷
-    still_sound (λ s. one_more 0 (fetch_by 2 8) (put_site s 2 (with_pends (site_at s 2) 4 (set (site_at s 2).entries 3 (entry 0 8 1 9 0 no_values))))) ∷
+    stays_sound (λ s. one_more 0 (fetch_by 2 8) (put_site s 2 (with_pends (site_at s 2) 4 (set (site_at s 2).entries 3 (entry 0 8 1 9 0 no_values))))) ∷
     unsound (λ s. put_site s 2 (with_stalls (site_at s 2) 4 (set (set (site_at s 2).waiting 2 (waits 0 0 0 8 0)) 3 (waits 0 0 0 9 0)))) ∷
-    still_sound (λ s. put_site s 2 (with_stalls (site_at s 2) 3 (set (site_at s 2).waiting 2 (waits 0 0 0 8 0)))) ∷ []) ∷
+    stays_sound (λ s. put_site s 2 (with_stalls (site_at s 2) 3 (set (site_at s 2).waiting 2 (waits 0 0 0 8 0)))) ∷ []) ∷
     []

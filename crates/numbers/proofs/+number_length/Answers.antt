@@ -1,5 +1,5 @@
 use mathlib.Core.Path.{ap, sym}
-use Prim.Native.Nat.{◌+◌, ◌/◌, ℕ, ◌<◌}
+use Prim.Native.Nat.{◌/◌}
 use native.Mathlib.Omega.{arith}
 use lib.ListN.{length}
 use Rattle.numbers.proofs.Grouped.{bytes_last, bytes_more, bytes_most}

@@ -1,10 +1,9 @@
 use mathlib.Core.Bool.{false}
 use mathlib.Core.Path.{sym, ◌∙◌}
-use Prim.Native.Nat.{◌+◌, ◌/◌, ℕ, ◌<◌}
+use Prim.Native.Nat.{◌+◌, ◌/◌}
 use native.Mathlib.Omega.{arith}
 use lib.ListN.{drop}
 use borrow.Author.Tests.{le-leb, lt-leb}
-use borrow.Author.Rules.{rules}
 use Rattle.numbers.specs.Groups.{decoded}
 use Rattle.numbers.proofs.Grouped.{limited-most, read_above, read_none, read_last, read_long, read_small}
 use Rattle.numbers.proofs.+read_groups.Goals as goal

@@ -1,5 +1,5 @@
 use mathlib.Core.Path.{◌∙◌, ap}
-use Prim.Native.Nat.{◌+◌, ◌%◌, ℕ, ◌<◌}
+use Prim.Native.Nat.{◌+◌, ◌%◌}
 use native.Mathlib.Omega.{arith}
 use lib.ListN.{length, length-set}
 use Rattle.numbers.proofs.Grouped.{put_more, bytes_last, bytes_more}

@@ -1,5 +1,4 @@
 use native.Mathlib.Omega.{arith}
-use borrow.Author.Rules.{rules}
 use Rattle.numbers.specs.Groups.{read_number}
 use Rattle.numbers.proofs.read_number.Goals as goal
 

@@ -5,7 +5,6 @@ use lib.Dec.{leb}
 use Prim.Native.Nat.{◌+◌}
 use mathlib.Core.Bool.{true, false}
 use mathlib.Core.Path.{◌≡◌}
-use borrow.Author.Rules.{rules}
 use Rattle.numbers.proofs.write_number.Goals as goal
 
 pub write_groups-requires : goal.write_groups-requires

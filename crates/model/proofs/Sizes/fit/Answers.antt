@@ -1,4 +1,3 @@
-use borrow.Author.Rules.{rules}
 use Rattle.model.specs.Limits.{in_limits}
 use Rattle.model.proofs.Sizes.fit.Goals as goal
 

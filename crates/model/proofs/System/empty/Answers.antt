@@ -1,5 +1,4 @@
 use Prim.Native.Nat.{◌%◌}
-use borrow.Author.Rules.{rules}
 use Rattle.lists.proofs.Places.{set_same}
 use Rattle.model.specs.Fresh.{no_line}
 use Rattle.model.proofs.System.empty.Goals as goal

@@ -1,5 +1,4 @@
 use mathlib.Core.Path.{sym, ◌∙◌}
-use borrow.Author.Rules.{rules}
 use Rattle.model.specs.Fresh.{fresh_of}
 use Rattle.model.proofs.System.fresh.Goals as goal
 

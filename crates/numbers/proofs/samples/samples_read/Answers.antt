@@ -1,4 +1,3 @@
-use borrow.Author.Rules.{rules}
 use Rattle.numbers.specs.Groups.{above, decoded, limited, read_number}
 use Rattle.numbers.proofs.samples.samples_read.Goals as goal
 

@@ -1,5 +1,4 @@
 use mathlib.Core.Path.{ap}
-use borrow.Author.Rules.{rules}
 use Rattle.numbers.specs.Groups.{Put, encoded, put_bytes}
 use Rattle.numbers.proofs.samples.samples_written.Goals as goal
 
