@@ -37,10 +37,21 @@ class Function:
             old, new = place[2]
             if old:
                 self.steps[plain(old)] = new
+        for loop in self.row["loops"]:
+            self.steps[plain(loop[0][0])] = loop[0][1]
+        self.places = {p[0]: p for p in self.row["places"]}
         self.said = []
 
     def say(self, text):
         self.said.append(f"{self.path}: {text}")
+
+    def chain(self, goal):
+        """The places from a goal's up to the start, by their older names."""
+        out, at = [], self.row["asked_at"][goal][0]
+        while at in self.places:
+            out.append(at)
+            at = self.places[at][1]
+        return out
 
     def body(self, text, goal):
         """Rewrites what a body cites of `c`."""
@@ -53,20 +64,34 @@ class Function:
                 text = text.replace(m[0], "", 1)
                 text = re.sub(r"(?<![\w.'-])" + re.escape(m[1]) + r"(?=\.)", "c." + name, text)
         text = re.sub(r"(?:\.before)+(?=\.)", "", text)
-        arm = self.row["arms"][goal] if goal < len(self.row["arms"]) else None
-        if arm:
-            for new, step, path in arm[2]:
-                if path:
+        for old, new in self.row["args"]:
+            old, new = old.replace(" ", ""), new.replace(" ", "")
+            text = re.sub(re.escape(old) + r"(?![\w'-])", new, text)
+        chain = self.chain(goal)
+        for place, arm in zip(self.row["places"], self.row["arms"]):
+            for new, step, path in (arm[2] if arm else []):
+                if path and (step != "match" or place[0] in chain):
                     old = r"(?<![\w.'-])c\." + re.escape(step).replace("_", "[_-]") + "".join(r"\." + re.escape(p) for p in path) + r"(?![\w'-])"
                     text = re.sub(old, f"c.{arm[0]}.{new}", text)
+        near = {}
+        for place in reversed(chain):
+            old, new = self.places[place][2]
+            if old:
+                near[plain(old)] = new
+        arms = {arm[0] for arm in self.row["arms"] if arm}
 
         def step(m):
             name = plain(m[1])
             if m[1] in ("args", "requires", "ranges", "well_formed", "lifetimes"):
                 return m[0]
+            if m[1] in arms:
+                return m[0]
+            name = name.removesuffix("-lem")
+            if name in near:
+                return "c." + near[name]
             if name in self.steps:
                 return "c." + self.steps[name]
-            if m[1] in self.steps.values() or arm and m[1] == arm[0]:
+            if m[1] in self.steps.values():
                 return m[0]
             self.say(f"`{m[0]}` of {self.row['needs'][goal][1]}: no such step")
             return m[0]
@@ -111,9 +136,9 @@ def turn(crate, names, root, path):
         label = re.match(r"([^\s]+)", rest[0])[1]
         old = plain(need[1])
         if old not in fn.goals:
-            fn.say(f"goal {need[1]}: no such goal")
             body = re.search(r"^" + re.escape(label) + r" [^=]*= ?(.*)", whole, re.S | re.M)
-            if body and body[1].strip() not in ("search rules",):
+            if body and not body[1].strip().startswith("search rules") and not re.match(r"enum-|slice-aggregate|same-length", need[1]):
+                fn.say(f"goal {need[1]}: no such goal")
                 answers.append("-- LEFT " + need[1] + "\n" + "\n".join("-- " + l for l in whole.split("\n")))
             continue
         new, at = fn.goals[old]
@@ -138,12 +163,19 @@ def turn(crate, names, root, path):
     uses = [u for u in uses if not re.search(r"\.(Statement|Tie|Reads|Kinds|Lts-[\w]+)(\.| as|$)|borrow\.Fn\.|proofs\.\+[\w]+\.\{statement\}", u)]
     mod = f"Rattle.{crate}.proofs.{module}"
     loops = [r for r in fn.row["loops"]] if fn.row.get("loops") else []
+    shared = []
+    for h in list(helpers):
+        m = re.search(r"^(?:(?:abbrev|unfoldable|pub) )*([^\s:]+)(?: \{[^{}]*\})* :", h, re.M)
+        if m and any(re.search(r"(?<![\w.'-])" + re.escape(m[1]) + r"(?![\w'-])", b) for b in invariants):
+            helpers.remove(h)
+            shared.append((m[1], h if " pub " in h or h.startswith("pub ") else re.sub(r"^((?:--.*\n)*)(abbrev |unfoldable )?", r"\1\2pub ", h, count=1)))
     if invariants or loops:
         with open(base + "/Invariants.antt", "w", encoding="utf-8") as f:
-            f.write("\n".join(uses + [f"use {mod}.Given as goal"]) + "\n\n" + "\n\n".join(invariants_of(fn, invariants)) + "\n")
+            f.write("\n".join(uses + [f"use {mod}.Given as goal"]) + "\n\n" + "\n\n".join([h for _, h in shared] + invariants_of(fn, invariants)) + "\n")
     if answers:
         with open(base + "/Answers.antt", "w", encoding="utf-8") as f:
-            f.write("\n".join(uses + [f"use {mod}.Goals as goal"]) + "\n\n" + "\n\n".join(helpers + answers) + "\n")
+            shares = [f"use {mod}.Invariants.{{{', '.join(n for n, _ in shared)}}}"] if shared else []
+            f.write("\n".join(uses + shares + [f"use {mod}.Goals as goal"]) + "\n\n" + "\n\n".join(helpers + answers) + "\n")
     for s in fn.said:
         print(s)
 
@@ -158,24 +190,41 @@ def invariants_of(fn, parts):
             continue
         comment, kind, loop, args, body = m.groups()
         new = loop_name(fn, loop)
-        for a in args.split():
+        for a, to in zip(args.split(), fields(fn, loop, args.split())):
             if a == "_":
                 continue
-            to = f"l.initial.{a[:-1]}" if a.endswith("₀") else f"l.{a}"
             body = re.sub(r"(?<![\w.'₀-])" + re.escape(a) + r"(?![\w'₀-])", to, body)
         out.append(f"{comment}abbrev pub {kind}-{new} : goal.{kind}-{new}\n{kind}-{new} l ={body}")
     return out
 
 
-def loop_name(fn, loop):
-    """The new name of a loop: `loop` or `loop2` of the older kit."""
-    k = int(loop[4:] or 1) - 1 if re.fullmatch(r"loop\d*", loop) else 0
-    rows = fn.row.get("loops") or []
-    if k < len(rows):
-        r = rows[k]
-        return r[1] if isinstance(r, list) and len(r) > 1 and isinstance(r[1], str) else str(r)
+def loop_of(fn, loop):
+    """Where a loop stands in the list of loops, by its older name."""
+    for k, row in enumerate(fn.row["loops"]):
+        if plain(row[0][0]) == plain(loop):
+            return k
     fn.say(f"loop {loop}: no such loop")
-    return loop
+    return None
+
+
+def loop_name(fn, loop):
+    k = loop_of(fn, loop)
+    return loop if k is None else fn.row["loops"][k][0][1]
+
+
+def fields(fn, loop, args):
+    """What stands for each argument of an older invariant: what the loop leaves, then what it changes as it was, then as it is."""
+    by_name = [f"l.initial.{a[:-1]}" if a.endswith("₀") else f"l.{a}" for a in args]
+    k = loop_of(fn, loop)
+    if k is None or k >= len(fn.row["changed"]):
+        return by_name
+    names, changed = fn.row["loops"][k][1], fn.row["changed"][k]
+    moved = [n for n, c in zip(names, changed) if c]
+    by_place = [f"l.{n}" for n, c in zip(names, changed) if not c] + [f"l.initial.{n}" for n in moved] + [f"l.{n}" for n in moved]
+    if len(by_place) != len(args):
+        fn.say(f"loop {loop}: {len(args)} arguments, and not {len(by_place)}")
+        return by_name
+    return by_place
 
 
 def main(argv):

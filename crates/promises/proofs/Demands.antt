@@ -21,7 +21,7 @@ use Rattle.model.specs.Sound.{request, reply, of_site, message_fits, site_queue_
 use Rattle.model.specs.Steps.{step_of, stepped, is_done}
 use Rattle.model.specs.Drain.{accepts, candidates_of, quiet, drained, drain_of}
 use Rattle.model.specs.Record.{six_of}
-use Rattle.promises.specs.Promises.{Promised, SizesOn, AllBytes, Verdict, good, bad_sizes, bad_step, gives, fresh_run, Ended, DemandThreeBound, DemandThreeAnswered, refuses, run, FreshSound, StepSound, RunSound, RefusedStays, DoneGiven, RefusalGiven, RunBound, QuietMeans, QuietEmpty, Alternating, OneOutstanding, AllAnswered, MovesMost, DrainQuiet, DrainFits, DrainRead, DrainTaken, DrainKeeps, ChoicesMost, Roomy, RunRoomy, RecordBytes, RecordRead, RecordOnly, ReadOnce, ReadOn, ReadAnswered, SizesFault, ReadFault, RecordWritten, WriteKeeps, ListingWhole}
+use Rattle.promises.specs.Promises.{Promised, SizesOn, AllBytes, Verdict, good, bad_sizes, bad_step, gives, Ended, DemandThreeBound, DemandThreeAnswered, refuses, run, FreshSound, StepSound, RunSound, RefusedStays, DoneGiven, RefusalGiven, RunBound, QuietMeans, QuietEmpty, Alternating, OneOutstanding, AllAnswered, MovesMost, DrainQuiet, DrainFits, DrainRead, DrainTaken, DrainKeeps, ChoicesMost, Roomy, RunRoomy, RecordBytes, RecordRead, RecordOnly, ReadOnce, ReadOn, ReadAnswered, SizesFault, ReadFault, RecordWritten, WriteKeeps, ListingWhole}
 use Rattle.promises.specs.Runs.{events}
 use Rattle.promises.specs.Reading.{Read, as_record, sizes_refused, step_refused}
 use Rattle.promises.proofs.Given.{done_by_number, refusal_unanswered}

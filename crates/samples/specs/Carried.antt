@@ -2,11 +2,10 @@
 use Rattle.std.specs.Prelude.{List, [], ◌∷◌, ◌++◌, true, false, ℕ}
 use Rattle.model.specs.declared.Instruction.TheVariants.{Commit}
 use Rattle.model.specs.declared.Step.TheVariants.{Issue, Send, ArriveMemory, Serve, SendBack, ArriveSite}
-use Rattle.model.specs.Fresh.{no_values, no_marks, no_place}
 use Rattle.model.specs.declared.Message.{Message}
 use Rattle.model.specs.declared.System.{System}
-use Rattle.model.specs.Sampling.{done, no, Act, Sample, ◌∶◌, ◌⇒◌, shows, keeping, standing, memory_line, memory_now, sizes_now, arrived_now, served_now, down_now, up_now}
-use Rattle.samples.specs.Scene.{words, marks, fetch_by, write_back_by, fetch_reply_to, ack_to, scene, going_out, coming_in, up_is, arrived_is, served_is, down_is, framed, queues, insides, all_queues, to_memory, from_memory, site_whole, inside}
+use Rattle.model.specs.Sampling.{done, Sample, ◌∶◌, ◌⇒◌, shows, keeping, standing, memory_now, sizes_now, arrived_now, served_now, down_now, up_now}
+use Rattle.samples.specs.Scene.{words, marks, fetch_by, write_back_by, fetch_reply_to, ack_to, scene, going_out, coming_in, up_is, arrived_is, served_is, down_is, framed, queues, insides, all_queues, to_memory, from_memory}
 
 -- the messages of the scene that are not alike in any field
 abbrev pub writes0 : Message

@@ -1,9 +1,9 @@
 -- What an issue and a retry write, field by field: each action of document 01's "Handling", at site 2 of the scene.
 use Rattle.std.specs.Prelude.{List, [], ◌∷◌, ◌++◌, true, false}
 use Rattle.model.specs.declared.Instruction.TheVariants.{Loadl, Storel, Commit, Reconcile, FenceRr, FenceRw, FenceWr, FenceWw}
-use Rattle.model.specs.declared.Step.TheVariants.{Issue, Retry, Send, ArriveMemory, Serve, SendBack, ArriveSite, Take}
+use Rattle.model.specs.declared.Step.TheVariants.{Issue, Retry}
 use Rattle.model.specs.Fresh.{no_values, no_marks, no_place}
-use Rattle.model.specs.Sampling.{done, value, ack, no, Act, Sample, ◌∶◌, ◌⇒◌, shows, keeping, standing, memory_line}
+use Rattle.model.specs.Sampling.{done, value, ack, no, Act, Sample, ◌∶◌, keeping, standing}
 use Rattle.model.specs.Broken.{with_waiting}
 use Rattle.samples.specs.Scene.{words, marks, place, entry, waits, fetch_by, write_back_by, entries2, scene, cached_at, pending_at, waiting_at, going_out, coming_in, everything, beside}
 

@@ -4,7 +4,7 @@ use Rattle.model.specs.declared.System.{System}
 use Rattle.model.specs.declared.Instruction.TheVariants.{Loadl, Storel, Commit, Reconcile, FenceRr, FenceRw, FenceWr, FenceWw}
 use Rattle.model.specs.declared.Step.TheVariants.{Issue, Retry, Send, ArriveMemory, Serve, SendBack, ArriveSite, Take}
 use Rattle.model.specs.Fresh.{no_values}
-use Rattle.model.specs.Sampling.{done, value, ack, no, Act, Sample, ◌∶◌, ◌⇒◌, trip, shows, drains, unsound, stays_sound, standing, run, sized, cache_of, memory_now}
+use Rattle.model.specs.Sampling.{done, value, ack, no, Act, Sample, ◌∶◌, ◌⇒◌, trip, shows, drains, unsound, stays_sound, standing, run, sized, cache_of}
 use Rattle.model.specs.Broken.{with_line, with_place, clean}
 use Rattle.samples.specs.Scene.{words, scene}
 

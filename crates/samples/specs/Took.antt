@@ -1,12 +1,12 @@
 -- What a take writes, field by field: each kind of entry, and each kind of place that its line goes into.
-use Rattle.std.specs.Prelude.{List, [], ◌∷◌, ◌++◌, true, false}
+use Rattle.std.specs.Prelude.{List, [], ◌∷◌, true, false}
 use Rattle.model.specs.declared.Step.TheVariants.{Serve, SendBack, ArriveSite, Take}
 use Rattle.model.specs.Fresh.{no_values, no_marks, no_place}
 use Rattle.model.specs.declared.Entry.{Entry}
 use Rattle.model.specs.declared.Place.{Place}
-use Rattle.model.specs.Sampling.{done, value, ack, no, Act, Sample, ◌∶◌, ◌⇒◌, keeping, standing}
+use Rattle.model.specs.Sampling.{done, value, ack, Sample, ◌∶◌, ◌⇒◌, keeping, standing}
 use Rattle.model.specs.Broken.{with_place}
-use Rattle.samples.specs.Scene.{words, marks, place, entry, waits, fetch_by, write_back_by, fetch_reply_to, ack_to, entries0, scene, cached_at, pending_at, waiting_at, going_out, coming_in, beside}
+use Rattle.samples.specs.Scene.{words, marks, place, entry, waits, fetch_by, write_back_by, fetch_reply_to, ack_to, scene, cached_at, pending_at, waiting_at, going_out, coming_in, beside}
 
 -- what stays where it is: two places of site 1, the entries behind its first, one place of site 2
 abbrev pub seven : Place

@@ -1,16 +1,15 @@
 -- States that are not sound, found from the scene by one change: every place not in use, every field of it, and each clause on its own.
-use Rattle.std.specs.Prelude.{List, [], ◌∷◌, ◌++◌, map, Bool, true, false, cond, ℕ, eqb, set, take}
+use Rattle.std.specs.Prelude.{List, [], ◌∷◌, ◌++◌, map, Bool, true, false, cond, ℕ, eqb, set}
 use Rattle.lists.specs.Places.{up_from, all_of}
 use Rattle.model.specs.declared.Message.{Message}
 use Rattle.model.specs.declared.Entry.{Entry}
 use Rattle.model.specs.declared.Waiting.{Waiting}
 use Rattle.model.specs.declared.Place.{Place}
 use Rattle.model.specs.declared.Queue.{Queue}
-use Rattle.model.specs.declared.SiteQueue.{SiteQueue}
 use Rattle.model.specs.declared.System.{System}
 use Rattle.model.specs.Fresh.{no_values, no_marks}
-use Rattle.model.specs.Parts.{site_at, put_site, with_cache, with_pends, with_stalls, with_outgoing, with_incoming, net_put, net_rest, site_put, site_rest, with_memory, with_nets}
-use Rattle.model.specs.Sampling.{no, Act, Sample, ◌∶◌, ◌⇒◌, unsound, stays_sound, standing, run, sized}
+use Rattle.model.specs.Parts.{site_at, put_site, with_pends, with_stalls, with_outgoing, with_incoming, net_put, net_rest, site_put, site_rest, with_nets}
+use Rattle.model.specs.Sampling.{Act, Sample, ◌∶◌, unsound, stays_sound, standing, run, sized}
 use Rattle.model.specs.Broken.{with_line, with_waiting, with_entry, with_going, with_place, busy}
 use Rattle.samples.specs.Scene.{words, marks, place, entry, waits, message, fetch_by, write_back_by, fetch_reply_to, ack_to, scene}
 
