@@ -6,6 +6,7 @@ usage: python3 tools/answers.py CRATE NAMES.json FOLDER
 NAMES.json is what `rt check --generated DIR --old-names` writes in the crate's folder. FOLDER has the Proof.antt files, laid out as in proofs/; the new files go below
 crates/CRATE/proofs. An answer that only says `search rules` is left out, since the check tries more by itself. What has no new name is printed and left as it was.
 """
+import glob
 import json
 import os
 import re
@@ -26,6 +27,46 @@ def blocks(text):
     return out
 
 
+def clauses_of(kind="ensures"):
+    """The names of the clauses of each function that has two or more of a kind, by crate and name."""
+    out = {}
+    for p in glob.glob("crates/*/src/**/*.rt", recursive=True):
+        with open(p, encoding="utf-8") as f:
+            text = re.sub(r"//[^\n]*", "", f.read())
+        crate = p.split("/")[1]
+        for m in re.finditer(r"\bfn (\w+)(.*?)\n\s*\{\n", text, re.S):
+            names = re.findall(r"\b" + kind + r" (\w+) \{", m[2])
+            if len(names) > 1:
+                out[crate, m[1]] = names
+    return out
+
+
+def split_tuple(body):
+    """The parts of the tuple that a body ends with, and what stands before it; or None."""
+    text = body.rstrip()
+    if not text.endswith(")"):
+        return None
+    depth = 0
+    for i in range(len(text) - 1, -1, -1):
+        depth += text[i] == ")"
+        depth -= text[i] == "("
+        if depth == 0:
+            break
+    head = text[:i].rstrip()
+    if head and not re.search(r"( in|=|\n)$", head) and head != "":
+        return None
+    parts, depth, start = [], 0, i + 1
+    for k in range(i + 1, len(text) - 1):
+        depth += text[k] in "({["
+        depth -= text[k] in ")}]"
+        if text[k] == "," and depth == 0:
+            parts.append(text[start:k].strip())
+            start = k + 1
+    if text[start : len(text) - 1].strip():
+        parts.append(text[start : len(text) - 1].strip())
+    return (text[:i], parts) if len(parts) > 1 else None
+
+
 class Function:
     def __init__(self, names, key, path):
         self.key, self.path, self.row = key, path, names[key]
@@ -41,6 +82,7 @@ class Function:
             self.steps[plain(loop[0][0])] = loop[0][1]
         self.places = {p[0]: p for p in self.row["places"]}
         self.said = []
+        self.ensured = ENSURED.get((key.split("-")[1], path.split("/")[-1].lstrip("+")))
 
     def say(self, text):
         self.said.append(f"{self.path}: {text}")
@@ -87,6 +129,8 @@ class Function:
             if m[1] in arms:
                 return m[0]
             name = name.removesuffix("-lem")
+            if name not in near and name not in self.steps:
+                name = re.sub(r"\d+$", "", name)
             if name in near:
                 return "c." + near[name]
             if name in self.steps:
@@ -96,7 +140,15 @@ class Function:
             self.say(f"`{m[0]}` of {self.row['needs'][goal][1]}: no such step")
             return m[0]
 
-        return re.sub(r"(?<![\w.'-])c\.([\w'-]+)", step, text)
+        text = re.sub(r"(?<![\w.'-])c\.([\w'-]+)", step, text)
+        called = {p[2][1]: p[3] for p in self.row["places"] if p[3]}
+
+        def ensured(m):
+            callee = called.get(m[1])
+            names = callee and ENSURED.get((callee.split("::")[0], callee.split("::")[-1]))
+            return f"c.{m[1]}.ensures.{names[int(m[2])]}" if names else m[0]
+
+        return re.sub(r"(?<![\w.'-])c\.([\w'-]+)\.ensures\.(\d)", ensured, text)
 
 
 def turn(crate, names, root, path):
@@ -157,10 +209,16 @@ def turn(crate, names, root, path):
             unf = whole[start : whole.index("\n" + label + " ", start)] + "\n"
         out = "\n".join(comment) + ("\n" if comment else "")
         new_body = fn.body(body, at)
+        if fn.ensured and new.startswith("returns"):
+            cut = split_tuple(new_body)
+            if cut and len(cut[1]) == len(fn.ensured):
+                new_body = cut[0] + "record { " + "; ".join(f"{n} = {p}" for n, p in zip(fn.ensured, cut[1])) + " }"
+            else:
+                fn.say(f"{new}: its clauses are {fn.ensured}")
         answers.append(f"{out}pub {new} : goal.{new}\n{unf}{new} {' '.join(args)} ={new_body}")
     base = f"crates/{crate}/proofs/{where}"
     os.makedirs(base, exist_ok=True)
-    uses = [u for u in uses if not re.search(r"\.(Statement|Tie|Reads|Kinds|Lts-[\w]+)(\.| as|$)|borrow\.Fn\.|proofs\.\+[\w]+\.\{statement\}", u)]
+    uses = [u for u in uses if not re.search(r"Rattle\.\w+\.proofs\.(?:[\w.+]+)\.(Statement|Tie|Reads|Kinds|Lts-[\w]+)(\.| as|$)|borrow\.Fn\.|proofs\.\+[\w]+\.\{statement\}", u)]
     mod = f"Rattle.{crate}.proofs.{module}"
     loops = [r for r in fn.row["loops"]] if fn.row.get("loops") else []
     shared = []
@@ -220,15 +278,19 @@ def fields(fn, loop, args):
         return by_name
     names, changed = fn.row["loops"][k][1], fn.row["changed"][k]
     moved = [n for n, c in zip(names, changed) if c]
-    by_place = [f"l.{n}" for n, c in zip(names, changed) if not c] + [f"l.initial.{n}" for n in moved] + [f"l.{n}" for n in moved]
+    by_place = [f"l.initial.{n}" if c else f"l.{n}" for n, c in zip(names, changed)] + [f"l.{n}" for n in moved]
     if len(by_place) != len(args):
         fn.say(f"loop {loop}: {len(args)} arguments, and not {len(by_place)}")
         return by_name
     return by_place
 
 
+ENSURED = {}
+
+
 def main(argv):
     crate, names, root = argv
+    ENSURED.update(clauses_of())
     with open(names, encoding="utf-8") as f:
         rows = json.load(f)
     for folder, _, files in os.walk(root):

@@ -8,4 +8,4 @@ use Rattle.left.proofs.in_queue.Goals as goal
 pub returns : goal.returns
 returns c =
     let places : length c.args.q.items ≡ 20 = search (rules, length_mapped) in
-    (simp length-take (omega (arith, c.within.ensures)), search rules)
+    record { value = simp length-take (omega (arith, c.within.ensures)); upper_bound = search rules }

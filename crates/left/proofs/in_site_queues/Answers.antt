@@ -9,4 +9,4 @@ pub returns : goal.returns
 returns c =
     let out_places : length c.args.out.items ≡ 5 = search (rules, length_mapped) in
     let back-places : length c.args.back.items ≡ 5 = search (rules, length_mapped) in
-    (simp length-take (omega (arith, c.within.ensures, c.within-2.ensures)), search rules)
+    record { value = simp length-take (omega (arith, c.within.ensures, c.within-2.ensures)); upper_bound = search rules }

@@ -11,6 +11,7 @@ use borrow.Author.Rules.{rules}
 use Rattle.lists.specs.Places.{ind, tally, weigh}
 use Rattle.lists.proofs.Long.{length_mapped}
 use Rattle.model.specs.Parts.{past_entry}
+use Rattle.model.specs.Kinds.{voluntary}
 use Rattle.model.specs.declared.Entry.{Entry}
 use Rattle.lists.proofs.Places.{weigh_turn, weigh-within}
 use Rattle.left.proofs.not_voluntary.Given as goal

@@ -1,9 +1,8 @@
 use mathlib.Core.Path.{ap, sym}
-use Prim.Native.Nat.{ℕ, ◌/◌, ◌<◌}
+use Prim.Native.Nat.{◌/◌}
 use native.Mathlib.Omega.{arith}
 use lib.ListN.{length}
 use Rattle.words.proofs.Decimal.{decimal_last, decimal-most, length_more}
-use Rattle.words.proofs.decimals.+decimal_length.{statement}
 use Rattle.words.proofs.decimals.+decimal_length.Goals as goal
 
 pub returns-then-n-lt10 : goal.returns-then-n-lt10

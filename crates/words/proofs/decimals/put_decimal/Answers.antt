@@ -4,7 +4,6 @@ use Prim.Native.Nat.{◌+◌}
 use lib.Dec.{leb}
 use lib.ListN.{length}
 use borrow.Author.Tests.{leb-true}
-use borrow.Author.Rules.{rules}
 use Rattle.numbers.specs.Groups.{put_bytes}
 use Rattle.model.specs.Replay.{decimal}
 use Rattle.words.proofs.decimals.put_decimal.Goals as goal

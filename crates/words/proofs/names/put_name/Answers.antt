@@ -1,5 +1,4 @@
 use Rattle.model.specs.Replay.{name_of, text}
-use borrow.Author.Rules.{rules}
 use Rattle.words.proofs.names.put_name.Goals as goal
 
 pub returns-in-Issue : goal.returns-in-Issue

@@ -1,0 +1,15 @@
+use native.Mathlib.Omega.{arith}
+use Rattle.listing.proofs.Lined.{line_of}
+use Rattle.model.specs.Replay.{text, word}
+use Prim.Native.Nat.{ℕ}
+use mathlib.Core.List.{List, ◌++◌}
+use mathlib.Core.Path.{◌∙◌, ap}
+use borrow.Author.Rules.{rules}
+use Rattle.listing.proofs.put_left.Goals as goal
+
+pub returns : goal.returns
+unfolding text
+returns c =
+    line_of _ c.add_word-b.new.0 c.args.buf.now c.args.at c.add_word-b.result _ (c.add_word-b.ensures.line_after ∙
+    ap (λ (t : List ℕ). t ++ word " " c.args.messages) c.add_word-a.ensures.line_after)
+    (omega (arith, c.add_word-a.ensures.room, c.add_word-b.ensures.room)) c.put_line.ensures
