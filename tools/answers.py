@@ -41,6 +41,17 @@ def clauses_of(kind="ensures"):
     return out
 
 
+def lent_parameters():
+    """The names of the `&mut` parameters of each function, by crate and name."""
+    out = {}
+    for p in glob.glob("crates/*/src/**/*.rt", recursive=True):
+        with open(p, encoding="utf-8") as f:
+            text = re.sub(r"//[^\n]*", "", f.read())
+        for m in re.finditer(r"\bfn (\w+)\((.*?)\)(?: ->|\n)", text, re.S):
+            out[p.split("/")[1], m[1]] = re.findall(r"(\w+): &mut ", m[2])
+    return out
+
+
 def split_tuple(body):
     """The parts of the tuple that a body ends with, and what stands before it; or None."""
     text = body.rstrip()
@@ -97,14 +108,17 @@ class Function:
 
     def body(self, text, goal):
         """Rewrites what a body cites of `c`."""
-        for m in list(re.finditer(r"let ([\w'-]+) = c(?:\.before)+ in\s*", text)):
-            text = re.sub(r"(?<![\w.'-])" + re.escape(m[1]) + r"(?=\.)", "c", text.replace(m[0], "", 1))
-        held = {}
-        for m in list(re.finditer(r"let ([\w'-]+) = c((?:\.before)*)\.([\w'-]+) in\s*", text)):
-            name = m[3]
-            if plain(name) in self.steps or name == "args":
-                text = text.replace(m[0], "", 1)
-                text = re.sub(r"(?<![\w.'-])" + re.escape(m[1]) + r"(?=\.)", "c." + name, text)
+        while True:
+            m = re.search(r"let ([\w'-]+) = c(?:\.before)+ in\s*", text)
+            to = "c"
+            if not m:
+                for m in re.finditer(r"let ([\w'-]+) = c(?:\.before)*\.([\w'-]+) in\s*", text):
+                    if plain(m[2]) in self.steps or m[2] == "args":
+                        to = "c." + m[2]
+                        break
+                else:
+                    break
+            text = text[: m.start()] + re.sub(r"(?<![\w.'-])" + re.escape(m[1]) + r"(?=\.)", to, text[m.end() :])
         text = re.sub(r"(?:\.before)+(?=\.)", "", text)
         for old, new in self.row["args"]:
             old, new = old.replace(" ", ""), new.replace(" ", "")
@@ -148,6 +162,14 @@ class Function:
             names = callee and ENSURED.get((callee.split("::")[0], callee.split("::")[-1]))
             return f"c.{m[1]}.ensures.{names[int(m[2])]}" if names else m[0]
 
+        def lent(m):
+            callee = called.get(m[1])
+            names = callee and LENT.get((callee.split("::")[0], callee.split("::")[-1]))
+            return f"c.{m[1]}.{m[2]}.{names[int(m[3])]}" if names and int(m[3]) < len(names) else m[0]
+
+        text = re.sub(r"(?<![\w.'-])c\.([\w'-]+)\.(new|auto)\.(\d)(?![\w.])", lent, text)
+        if self.path.split("/")[-1].startswith("+"):
+            text = re.sub(r"(?<![\w.'-])c\.requires\.1", "c.requires", text)
         return re.sub(r"(?<![\w.'-])c\.([\w'-]+)\.ensures\.(\d)", ensured, text)
 
 
@@ -285,12 +307,13 @@ def fields(fn, loop, args):
     return by_place
 
 
-ENSURED = {}
+ENSURED, LENT = {}, {}
 
 
 def main(argv):
     crate, names, root = argv
     ENSURED.update(clauses_of())
+    LENT.update(lent_parameters())
     with open(names, encoding="utf-8") as f:
         rows = json.load(f)
     for folder, _, files in os.walk(root):

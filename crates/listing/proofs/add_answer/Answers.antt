@@ -29,4 +29,4 @@ returns-in-Acknowledged c =
     let i = c.in-Acknowledged.site in
     let t = c.in-Acknowledged.tag in
     let l = take c.args.at c.args.line.now in
-    let p = put_behind (32 ∷ 97 ∷ 99 ∷ 107 ∷ []) c.begin_answer-next-in-Acknowledged.new.0 _ c.begin_answer-next-in-Acknowledged.result _ (omega (arith, pre, c.begin_answer-next-in-Acknowledged.ensures.room, c.begin_answer-next-in-Acknowledged.auto.0)) c.put_text.ensures in record { line_after = rw c.in-Acknowledged.is (p.1 ∙ ap (λ (m : List ℕ). m ++ text " ack") c.begin_answer-next-in-Acknowledged.ensures.line_after ∙ three_behind l (word " answer " i) (word " " t) (text " ack")); room = omega (arith, p.0, c.begin_answer-next-in-Acknowledged.ensures.room) }
+    let p = put_behind (32 ∷ 97 ∷ 99 ∷ 107 ∷ []) c.begin_answer-next-in-Acknowledged.new.line _ c.begin_answer-next-in-Acknowledged.result _ (omega (arith, pre, c.begin_answer-next-in-Acknowledged.ensures.room, c.begin_answer-next-in-Acknowledged.auto.line)) c.put_text.ensures in record { line_after = rw c.in-Acknowledged.is (p.1 ∙ ap (λ (m : List ℕ). m ++ text " ack") c.begin_answer-next-in-Acknowledged.ensures.line_after ∙ three_behind l (word " answer " i) (word " " t) (text " ack")); room = omega (arith, p.0, c.begin_answer-next-in-Acknowledged.ensures.room) }

@@ -14,7 +14,7 @@ add_answer-requires c =
     let pre = c.requires in
     let z = ap length (decimal_last 0 (omega arith)) in
     let p = put_behind (decimal 0) c.args.line.now _ c.args.at _ (omega (arith, pre, z)) c.put_decimal-past.ensures in
-    omega (arith, pre, p.0, z, c.put_decimal-past.auto.0)
+    omega (arith, pre, p.0, z, c.put_decimal-past.auto.buf)
 
 pub returns-in-Done : goal.returns-in-Done
 unfolding outcome_text

@@ -18,5 +18,5 @@ returns c =
     let n = c.args.n in
     let d = decimal-most n (omega arith) in
     let p = put_behind w line _ at _ (omega (arith, pre)) c.put_text-past.ensures in
-    let q = put_behind (decimal n) c.put_text-past.new.0 _ c.put_text-past.result _ (omega (arith, pre, p.0, d, c.put_text-past.auto.0)) c.put_decimal.ensures in
+    let q = put_behind (decimal n) c.put_text-past.new.buf _ c.put_text-past.result _ (omega (arith, pre, p.0, d, c.put_text-past.auto.buf)) c.put_decimal.ensures in
     record { line_after = q.1 ∙ ap (λ (l : List ℕ). l ++ decimal n) p.1 ∙ append_assoc (take at line) w (decimal n); room = omega (arith, p.0, q.0, d) }

@@ -13,14 +13,10 @@ use native.Mathlib.Omega.{arith}
 use borrow.Author.Rules.{rules}
 use Rattle.listing.proofs.put_line.Goals as goal
 
--- LEFT slice-bounds-put-text-end
--- part-put-text-end : tie.Need-slice-bounds-put-text-end
--- part-put-text-end c =
---     let args = c.before.before.before.before.before.before.before.before.before.before.before.args in
---     let pre = c.before.before.before.before.before.before.before.before.before.before.before.requires in
---     let put-text = c.before.before.before.before.before.before.put-text in
---     let p = put_behind _ args.line.now _ args.end _ (omega (arith, pre)) put-text.ensures in
---     omega (arith, p.0, pre, put-text.auto.0)
+pub slice_bounds-put_text-end-then-fits : goal.slice_bounds-put_text-end-then-fits
+slice_bounds-put_text-end-then-fits c =
+    let p = put_behind _ c.args.line.now _ c.args.end _ (omega (arith, c.requires)) c.put_text-size.ensures in
+    omega (arith, p.0, c.requires, c.put_text-size.auto.buf)
 
 pub returns-then-fits : goal.returns-then-fits
 unfolding text
@@ -41,7 +37,7 @@ returns-then-fits c =
       leb-true (c.args.at + c.put_text-size.result) (length buf) (sym
           fits2.ensures ∙ c.if-fits.true),
     )) (c.put_text-past.ensures ∙
-    ap (λ (k : ℕ). put_bytes (take k c.put_text-size.new.0) buf c.args.at) (sub-zero c.put_text-size.result) ∙
+    ap (λ (k : ℕ). put_bytes (take k c.put_text-size.new.buf) buf c.args.at) (sub-zero c.put_text-size.result) ∙
     ap (λ (l : List ℕ). put_bytes l buf c.args.at) p.1)
 
 pub returns : goal.returns

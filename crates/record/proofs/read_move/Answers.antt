@@ -1,6 +1,5 @@
 use mathlib.Core.Path.{ap, sym, ◌∙◌}
 use Prim.Native.Nat.{ℕ}
-use borrow.Author.Rules.{rules}
 use Rattle.numbers.proofs.Found.{fault-place}
 use Rattle.model.specs.declared.Refusal.TheVariants.{NoRecord}
 use Rattle.model.specs.declared.ReadStep.TheVariants.{NoStep}

@@ -3,7 +3,7 @@ use lib.ListN.{length}
 use borrow.Author.Tests.{le-leb, lt-leb}
 use borrow.Author.Rules.{rules}
 use Rattle.model.specs.Given.{most_bytes}
-use Rattle.model.specs.Record.{numbers, sizes_from, read_sizes}
+use Rattle.model.specs.Record.{sizes_from, read_sizes}
 use Rattle.record.proofs.ReadRow.{sizes-read}
 use Rattle.record.proofs.read_sizes.Goals as goal
 

@@ -2,7 +2,6 @@ use mathlib.Core.Path.{ap, sym, ◌∙◌}
 use Prim.Native.Nat.{ℕ}
 use lib.ListN.{length}
 use borrow.Author.Tests.{eq-eqb, ne_eqb, le-leb, lt-leb}
-use borrow.Author.Rules.{rules}
 use Rattle.numbers.proofs.Found.{fault-place}
 use Rattle.model.specs.declared.Refusal.TheVariants.{NoRecord}
 use Rattle.model.specs.declared.ReadStep.TheVariants.{NoStep}

@@ -1,4 +1,3 @@
-use borrow.Author.Rules.{rules}
 use Rattle.model.specs.Record.{write_sizes}
 use Rattle.record.proofs.RowTurns.{sizes_six, sizes-bytes}
 use Rattle.record.proofs.write_sizes.Goals as goal

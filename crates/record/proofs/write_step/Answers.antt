@@ -1,4 +1,3 @@
-use borrow.Author.Rules.{rules}
 use Rattle.model.specs.Record.{write_step}
 use Rattle.record.proofs.RowTurns.{step_six, step_bytes_lem}
 use Rattle.record.proofs.write_step.Goals as goal

@@ -1,10 +1,9 @@
 use mathlib.Core.List.{flat_map}
 use mathlib.Core.Path.{refl, ap, sym, ◌∙◌, ◌≡◌}
-use Prim.Native.Nat.{ℕ, ◌+◌, ◌-◌, ◌≤◌}
+use Prim.Native.Nat.{ℕ, ◌+◌, ◌≤◌}
 use native.Mathlib.Nat.{add-zero}
 use native.Mathlib.Omega.{arith}
 use lib.ListN.{get_or, length, take}
-use lib.Seq.{sets}
 use borrow.Author.Rules.{rules}
 use Rattle.numbers.specs.Groups.{bytes_of, put_to}
 use Rattle.model.specs.Record.{bytes_of_all}
@@ -28,7 +27,7 @@ loop-i-preserved c =
     ) in (
       omega arith,
       (
-        c.write_number-past.auto.0 ∙ c.loop-i.invariant.1.0,
+        c.write_number-past.auto.buf ∙ c.loop-i.invariant.1.0,
         rw b
             (put_turn c.args.buf.now (bytes_of_all (take c.loop-i.i c.args.row.numbers)) (bytes_of (get_or c.args.row.numbers c.loop-i.i 0)) c.args.at
             c.loop-i.past c.loop-i.buf _ c.loop-i.invariant.1.1 c.write_number-past.ensures (rw b at fits)),

@@ -1,10 +1,8 @@
 use mathlib.Core.Path.{refl, sym, ◌∙◌, ◌≡◌}
-use Prim.Native.Nat.{◌-◌, ◌≤◌}
 use native.Mathlib.Omega.{arith}
-use lib.ListN.{length-set, length, take, drop}
+use lib.ListN.{length-set, length}
 use borrow.Author.Rules.{rules}
-use Rattle.model.specs.Record.{read_numbers}
-use Rattle.record.proofs.RowTurns.{none_prepended, read_turn, read-fault, read-end, prepended}
+use Rattle.record.proofs.RowTurns.{none_prepended, read_turn, read-fault, read-end}
 use Rattle.record.proofs.rows.read_row.Goals as goal
 
 pub loop-i-init : goal.loop-i-init

@@ -1,10 +1,8 @@
-use mathlib.Core.Path.{refl, sym, ◌∙◌, ◌≡◌}
+use mathlib.Core.Path.{◌≡◌}
 use Prim.Native.Nat.{◌-◌, ◌≤◌}
-use native.Mathlib.Omega.{arith}
-use lib.ListN.{length-set, length, take, drop}
-use borrow.Author.Rules.{rules}
+use lib.ListN.{length, take, drop}
 use Rattle.model.specs.Record.{read_numbers}
-use Rattle.record.proofs.RowTurns.{none_prepended, read_turn, read-fault, read-end, prepended}
+use Rattle.record.proofs.RowTurns.{prepended}
 use Rattle.record.proofs.rows.read_row.Given as goal
 
 abbrev pub invariant-loop-i : goal.invariant-loop-i

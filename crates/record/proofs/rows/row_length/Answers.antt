@@ -1,6 +1,5 @@
 use mathlib.Core.List.{flat_map}
 use mathlib.Core.Path.{ap, ◌≡◌}
-use Prim.Native.Nat.{◌-◌, ◌*◌, ◌≤◌}
 use native.Mathlib.Omega.{arith}
 use lib.ListN.{length-append, get_or, length, take}
 use borrow.Author.Rules.{rules}

@@ -1,13 +1,7 @@
-use mathlib.Core.List.{flat_map}
-use mathlib.Core.Path.{ap, ◌≡◌}
+use mathlib.Core.Path.{◌≡◌}
 use Prim.Native.Nat.{◌-◌, ◌*◌, ◌≤◌}
-use native.Mathlib.Omega.{arith}
-use lib.ListN.{length-append, get_or, length, take}
-use borrow.Author.Rules.{rules}
-use Rattle.numbers.proofs.Grouped.{bytes_most}
-use Rattle.numbers.specs.Groups.{bytes_of}
+use lib.ListN.{length, take}
 use Rattle.model.specs.Record.{bytes_of_all}
-use Rattle.record.proofs.RowTurns.{bytes_turn}
 use Rattle.record.proofs.rows.row_length.Given as goal
 
 abbrev pub invariant-loop-i : goal.invariant-loop-i

@@ -3,7 +3,6 @@ use Prim.Native.Nat.{◌+◌}
 use native.Mathlib.Omega.{arith}
 use lib.ListN.{length}
 use borrow.Author.Tests.{le-leb, lt-leb}
-use borrow.Author.Rules.{rules}
 use Rattle.numbers.specs.Groups.{Put}
 use Rattle.model.specs.declared.Wrote.TheVariants.{Past}
 use Rattle.model.specs.Given.{most_bytes}

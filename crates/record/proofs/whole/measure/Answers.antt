@@ -1,12 +1,6 @@
-use mathlib.Core.Path.{◌≡◌, refl, ap, sym, ◌∙◌}
-use Prim.Native.Nat.{◌+◌, ◌-◌, ◌≤◌}
+use mathlib.Core.Path.{ap, sym, ◌∙◌}
 use native.Mathlib.Omega.{arith}
-use lib.ListN.{length, drop}
-use borrow.Author.Rules.{rules}
-use Rattle.model.specs.Given.{most_bytes}
-use Rattle.model.specs.Record.{step_bytes}
-use Rattle.record.specs.Rows.{measured}
-use Rattle.record.specs.Whole.{steps_in}
+use lib.ListN.{length}
 use Rattle.record.proofs.WholeTurns.{measured_on, measured-none, measured-cut, measured-end}
 use Rattle.record.proofs.RowTurns.{step_six, step_bytes_lem}
 use Rattle.record.proofs.whole.measure.Goals as goal
@@ -21,10 +15,7 @@ row_length-requires c = step_six _ _ c.numbers_of-fields.ensures
 
 pub loop-at-preserved : goal.loop-at-preserved
 loop-at-preserved c =
-    let known = c.before in
-    let looked = known.before in
-    let loop = looked.loop in
-    let ns = looked.args.numbers.now in
+    let ns = c.args.numbers.now in
     let long = c.row_length.ensures.value ∙ ap length (step_bytes_lem _ _ c.numbers_of-fields.ensures) in (
       omega arith,
       (
@@ -32,7 +23,7 @@ loop-at-preserved c =
         (
           omega (arith, c.lengthened-size.ensures),
           rw (c.lengthened-size.ensures, long)
-              (measured_on ns loop.at loop.size loop.row _ (omega arith) (sym looked.row_at.ensures ∙ known.named.given.1) ∙ loop.invariant.1.1.1),
+              (measured_on ns c.loop-at.at c.loop-at.size c.loop-at.row _ (omega arith) (sym c.row_at-named.ensures ∙ c.in-Known.is) ∙ c.loop-at.invariant.1.1.1),
         ),
       ),
     )

@@ -1,14 +1,9 @@
-use mathlib.Core.Path.{◌≡◌, refl, ap, sym, ◌∙◌}
+use mathlib.Core.Path.{◌≡◌}
 use Prim.Native.Nat.{◌+◌, ◌-◌, ◌≤◌}
-use native.Mathlib.Omega.{arith}
 use lib.ListN.{length, drop}
-use borrow.Author.Rules.{rules}
 use Rattle.model.specs.Given.{most_bytes}
-use Rattle.model.specs.Record.{step_bytes}
 use Rattle.record.specs.Rows.{measured}
 use Rattle.record.specs.Whole.{steps_in}
-use Rattle.record.proofs.WholeTurns.{measured_on, measured-none, measured-cut, measured-end}
-use Rattle.record.proofs.RowTurns.{step_six, step_bytes_lem}
 use Rattle.record.proofs.whole.measure.Given as goal
 
 -- the rows still to come, behind what is counted, measure as all rows do behind the sizes

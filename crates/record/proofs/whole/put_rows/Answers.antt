@@ -1,13 +1,10 @@
-use mathlib.Core.Path.{◌≡◌, refl, ap, sym, ◌∙◌}
-use mathlib.Core.Bool.{true}
-use Prim.Native.Nat.{◌+◌, ◌-◌, ◌≤◌}
+use mathlib.Core.Path.{refl, ap, sym, ◌∙◌}
+use Prim.Native.Nat.{◌+◌}
 use native.Mathlib.Omega.{arith}
 use lib.ListN.{length, drop}
-use lib.Seq.{sets}
-use borrow.Author.Rules.{rules}
-use Rattle.numbers.specs.Groups.{Put, put_to}
+use Rattle.numbers.specs.Groups.{Put}
 use Rattle.model.specs.Record.{step_bytes}
-use Rattle.record.specs.Rows.{are_all, rows_bytes}
+use Rattle.record.specs.Rows.{rows_bytes}
 use Rattle.record.specs.Whole.{steps_in}
 use Rattle.record.proofs.RowTurns.{step_six, step_bytes_lem}
 use Rattle.record.proofs.WholeTurns.{all_on, bytes_on, length_on, bytes-none, bytes-end, put_on, put_end}
@@ -23,37 +20,30 @@ returns-in_default c =
 
 pub put_row-past-requires : goal.put_row-past-requires
 put_row-past-requires c =
-    let looked = c.before in
-    let loop = looked.loop in
-    let start = looked.before in
-    let ns = start.args.numbers.now in (
+    let ns = c.args.numbers.now in (
       step_six _ _ c.numbers_of-fields.ensures,
       omega (
         arith,
-        start.requires.1,
-        loop.invariant.1.0,
-        ap (λ (p : Put). p.past) loop.invariant.1.1.1,
-        length_on ns loop.at (omega arith) _ (sym looked.row_at.ensures ∙ c.in-Known.is) loop.invariant.1.1.0,
+        c.requires.1,
+        c.loop-at.invariant.1.0,
+        ap (λ (p : Put). p.past) c.loop-at.invariant.1.1.1,
+        length_on ns c.loop-at.at (omega arith) _ (sym c.row_at-named.ensures ∙ c.in-Known.is) c.loop-at.invariant.1.1.0,
         ap length (step_bytes_lem _ _ c.numbers_of-fields.ensures),
       ),
     )
 
 pub loop-at-preserved : goal.loop-at-preserved
 loop-at-preserved c =
-    let made = c.before in
-    let known = made.before in
-    let looked = known.before in
-    let loop = looked.loop in
-    let ns = looked.args.numbers.now in
-    let named = sym looked.row_at.ensures ∙ known.named.given.1 in
-    let b = bytes_on ns loop.at (omega arith) _ named loop.invariant.1.1.0 in
-    let e = rw (step_bytes_lem _ _ made.numbers-of.ensures) at c.put_row-past.ensures in (
+    let ns = c.args.numbers.now in
+    let named = sym c.row_at-named.ensures ∙ c.in-Known.is in
+    let b = bytes_on ns c.loop-at.at (omega arith) _ named c.loop-at.invariant.1.1.0 in
+    let e = rw (step_bytes_lem _ _ c.numbers_of-fields.ensures) at c.put_row-past.ensures in (
       omega arith,
       (
-        c.put_row-past.auto.0 ∙ loop.invariant.1.0,
+        c.put_row-past.auto.buf ∙ c.loop-at.invariant.1.0,
         (
-          all_on ns loop.at (omega arith) _ named loop.invariant.1.1.0,
-          put_on (step_bytes known.named.given.0.0) (rows_bytes (steps_in (drop (loop.at + 6) ns))) loop.buf c.put_row-past.new.0 loop.past c.put_row-past.result e ∙ rw b at loop.invariant.1.1.1,
+          all_on ns c.loop-at.at (omega arith) _ named c.loop-at.invariant.1.1.0,
+          put_on (step_bytes c.in-Known.x) (rows_bytes (steps_in (drop (c.loop-at.at + 6) ns))) c.loop-at.buf c.put_row-past.new.buf c.loop-at.past c.put_row-past.result e ∙ rw b at c.loop-at.invariant.1.1.1,
         ),
       ),
     )

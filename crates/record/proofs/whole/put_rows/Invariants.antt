@@ -1,16 +1,11 @@
-use mathlib.Core.Path.{◌≡◌, refl, ap, sym, ◌∙◌}
+use mathlib.Core.Path.{◌≡◌}
 use mathlib.Core.Bool.{true}
 use Prim.Native.Nat.{◌+◌, ◌-◌, ◌≤◌}
-use native.Mathlib.Omega.{arith}
 use lib.ListN.{length, drop}
 use lib.Seq.{sets}
-use borrow.Author.Rules.{rules}
-use Rattle.numbers.specs.Groups.{Put, put_to}
-use Rattle.model.specs.Record.{step_bytes}
+use Rattle.numbers.specs.Groups.{put_to}
 use Rattle.record.specs.Rows.{are_all, rows_bytes}
 use Rattle.record.specs.Whole.{steps_in}
-use Rattle.record.proofs.RowTurns.{step_six, step_bytes_lem}
-use Rattle.record.proofs.WholeTurns.{all_on, bytes_on, length_on, bytes-none, bytes-end, put_on, put_end}
 use Rattle.record.proofs.whole.put_rows.Given as goal
 
 abbrev pub invariant-loop-at : goal.invariant-loop-at

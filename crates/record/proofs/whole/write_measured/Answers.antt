@@ -4,7 +4,6 @@ use Prim.Native.Nat.{◌+◌}
 use native.Mathlib.Omega.{arith}
 use lib.ListN.{length, length-append}
 use borrow.Author.Tests.{le-leb, lt-leb}
-use borrow.Author.Rules.{rules}
 use Rattle.numbers.specs.Groups.{Put}
 use Rattle.model.specs.declared.Wrote.TheVariants.{Past}
 use Rattle.model.specs.Given.{most_bytes}
@@ -36,22 +35,19 @@ put_row-past-requires c =
 
 pub put_rows-end-requires : goal.put_rows-end-requires
 put_rows-end-requires c =
-    let start = c.before in
-    let a = bytes_of_all (listed start.args.sizes) in
+    let a = bytes_of_all (listed c.args.sizes) in
     let past = ap (λ (p : Put). p.past) c.put_row-past.ensures in
-    (start.requires.1.0, omega (arith, past, c.put_row-past.auto.0, start.requires.1.1, length-append a (rows_bytes (steps_in start.args.numbers.now))))
+    (c.requires.1.0, omega (arith, past, c.put_row-past.auto.buf, c.requires.1.1, length-append a (rows_bytes (steps_in c.args.numbers.now))))
 
 pub returns : goal.returns
 unfolding written_at put_at
 returns c =
-    let put = c.before in
-    let start = put.before in
-    let a = bytes_of_all (listed start.args.sizes) in
-    let b = rows_bytes (steps_in start.args.numbers.now) in
-    let buf = start.args.buf.now in
+    let a = bytes_of_all (listed c.args.sizes) in
+    let b = rows_bytes (steps_in c.args.numbers.now) in
+    let buf = c.args.buf.now in
     rw (
-      le-leb (0 + length (a ++ b)) most_bytes (omega (arith, start.requires.1.1)),
-      le-leb (0 + length (a ++ b)) (length buf) (omega (arith, start.requires.1.1)),
+      le-leb (0 + length (a ++ b)) most_bytes (omega (arith, c.requires.1.1)),
+      le-leb (0 + length (a ++ b)) (length buf) (omega (arith, c.requires.1.1)),
     )
     (ap (λ (p : Put). written (Past p.past) p.buffer)
-    (c.put_rows-end.ensures ∙ put_on a b buf put.put-row.new.0 0 put.put-row.result put.put-row.ensures))
+    (c.put_rows-end.ensures ∙ put_on a b buf c.put_row-past.new.buf 0 c.put_row-past.result c.put_row-past.ensures))

@@ -1,5 +1,4 @@
 use borrow.Author.Tests.{eq-eqb, ne_eqb}
-use borrow.Author.Rules.{rules}
 use Rattle.model.specs.Handling.{decided}
 use Rattle.rules.proofs.decision.decide.Goals as goal
 

@@ -1,4 +1,3 @@
-use borrow.Author.Rules.{rules}
 use Rattle.model.specs.Handling.{on_commit}
 use Rattle.rules.proofs.decision.on_commit.Goals as goal
 

@@ -1,4 +1,3 @@
-use borrow.Author.Rules.{rules}
 use Rattle.model.specs.Handling.{missed, on_loadl}
 use Rattle.rules.proofs.decision.on_loadl.Goals as goal
 

@@ -1,4 +1,3 @@
-use borrow.Author.Rules.{rules}
 use Rattle.model.specs.Handling.{on_reconcile}
 use Rattle.rules.proofs.decision.on_reconcile.Goals as goal
 

@@ -1,4 +1,3 @@
-use borrow.Author.Rules.{rules}
 use Rattle.model.specs.Handling.{missed, on_storel}
 use Rattle.rules.proofs.decision.on_storel.Goals as goal
 

@@ -1,4 +1,3 @@
-use borrow.Author.Rules.{rules}
 use Rattle.rules.proofs.issue.in_the_way.Goals as goal
 
 pub returns : goal.returns

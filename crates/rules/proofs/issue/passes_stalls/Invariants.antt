@@ -1,14 +1,7 @@
-use mathlib.Core.Path.{◌≡◌, sym}
-use mathlib.Core.Bool.{not}
+use mathlib.Core.Path.{◌≡◌}
 use Prim.Native.Nat.{◌≤◌, ◌-◌}
-use native.Mathlib.Omega.{arith}
-use borrow.Author.Rules.{rules}
-use lib.ListN.{length}
 use Rattle.lists.specs.Places.{none_of}
-use Rattle.lists.proofs.Each.{each_none, each_turn, each-past}
-use Rattle.lists.proofs.Long.{length_mapped}
 use Rattle.model.specs.declared.Waiting.{Waiting}
-use Rattle.model.specs.Parts.{past_waiting}
 use Rattle.model.specs.Issue.{in_the_way}
 use Rattle.rules.proofs.issue.passes_stalls.Given as goal
 

@@ -1,4 +1,3 @@
-use borrow.Author.Rules.{rules}
 use Rattle.model.specs.Issue.{kind_of, first_address, last_address, value_of}
 use Rattle.rules.proofs.issue.take_apart.Goals as goal
 
