@@ -93,10 +93,21 @@ class Function:
             self.steps[plain(loop[0][0])] = loop[0][1]
         self.places = {p[0]: p for p in self.row["places"]}
         self.said = []
-        self.ensured = ENSURED.get((key.split("-")[1], path.split("/")[-1].lstrip("+")))
+        self.crate = key.split("-")[1]
+        own = (self.crate, path.split("/")[-1].lstrip("+"))
+        self.ensured, self.required = ENSURED.get(own), REQUIRED.get(own)
 
     def say(self, text):
         self.said.append(f"{self.path}: {text}")
+
+    def required_of(self, need):
+        """The names of what a call's goal has to show, where that is more than one."""
+        m = re.fullmatch(r"(.*)-requires(?:-\d+)?", need)
+        name = m and m[1].replace("-", "_")
+        for p in self.row["places"]:
+            if p[3] and p[3].split("::")[-1] == name:
+                return REQUIRED.get((p[3].split("::")[0], name))
+        return name and REQUIRED.get((self.crate, name))
 
     def chain(self, goal):
         """The places from a goal's up to the start, by their older names."""
@@ -168,6 +179,8 @@ class Function:
             return f"c.{m[1]}.{m[2]}.{names[int(m[3])]}" if names and int(m[3]) < len(names) else m[0]
 
         text = re.sub(r"(?<![\w.'-])c\.([\w'-]+)\.(new|auto)\.(\d)(?![\w.])", lent, text)
+        if self.required:
+            text = re.sub(r"(?<![\w.'-])c\.requires\.(\d)(?![\w])", lambda m: f"c.requires.{self.required[int(m[1])]}", text)
         if self.path.split("/")[-1].startswith("+"):
             text = re.sub(r"(?<![\w.'-])c\.requires\.1", "c.requires", text)
         return re.sub(r"(?<![\w.'-])c\.([\w'-]+)\.ensures\.(\d)", ensured, text)
@@ -231,6 +244,10 @@ def turn(crate, names, root, path):
             unf = whole[start : whole.index("\n" + label + " ", start)] + "\n"
         out = "\n".join(comment) + ("\n" if comment else "")
         new_body = fn.body(body, at)
+        asked = fn.required_of(fn.row["needs"][at][0])
+        cut = asked and split_tuple(new_body)
+        if cut and len(cut[1]) == len(asked):
+            new_body = cut[0] + "record { " + "; ".join(f"{n} = {p}" for n, p in zip(asked, cut[1])) + " }"
         if fn.ensured and new.startswith("returns"):
             cut = split_tuple(new_body)
             if cut and len(cut[1]) == len(fn.ensured):
@@ -307,12 +324,13 @@ def fields(fn, loop, args):
     return by_place
 
 
-ENSURED, LENT = {}, {}
+ENSURED, REQUIRED, LENT = {}, {}, {}
 
 
 def main(argv):
     crate, names, root = argv
     ENSURED.update(clauses_of())
+    REQUIRED.update(clauses_of("requires"))
     LENT.update(lent_parameters())
     with open(names, encoding="utf-8") as f:
         rows = json.load(f)

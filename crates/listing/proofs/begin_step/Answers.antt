@@ -6,7 +6,6 @@ use Prim.Native.Nat.{ℕ}
 use mathlib.Core.List.{List, [], ◌∷◌, ◌++◌}
 use mathlib.Core.Path.{◌∙◌, ap}
 use native.Mathlib.Omega.{arith}
-use borrow.Author.Rules.{rules}
 use Rattle.listing.proofs.begin_step.Goals as goal
 
 pub returns : goal.returns
@@ -24,5 +23,8 @@ returns c =
     let p3 = put_behind (name_of x) c.put_text-b.new.buf _ c.put_text-b.result _ (omega (arith, pre, d, m, p1.0, p2.0, k1, k2)) c.put_name-c.ensures in
     let k3 = c.put_name-c.auto.buf in
     let p4 = put_behind (32 ∷ []) c.put_name-c.new.buf _ c.put_name-c.result _ (omega (arith, pre, d, m, p1.0, p2.0, p3.0, k1, k2, k3))
-    c.put_text.ensures in record { line_after = p4.1 ∙ ap (λ (t : List ℕ). t ++ text " ") (p3.1 ∙ ap (λ (t : List ℕ). t ++ name_of x) (p2.1 ∙
-          ap (λ (t : List ℕ). t ++ text " ") p1.1)); room = omega (arith, d, m, p1.0, p2.0, p3.0, p4.0) }
+    c.put_text.ensures in record {
+      line_after = p4.1 ∙ ap (λ (t : List ℕ). t ++ text " ") (p3.1 ∙ ap (λ (t : List ℕ). t ++ name_of x) (p2.1 ∙
+          ap (λ (t : List ℕ). t ++ text " ") p1.1));
+      room = omega (arith, d, m, p1.0, p2.0, p3.0, p4.0);
+    }

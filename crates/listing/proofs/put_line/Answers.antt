@@ -10,7 +10,6 @@ use Rattle.listing.proofs.Lined.{lined, not_lined}
 use borrow.Author.Tests.{leb-true, leb-false}
 use mathlib.Core.Path.{◌≡◌, sym, ◌∙◌, ap}
 use native.Mathlib.Omega.{arith}
-use borrow.Author.Rules.{rules}
 use Rattle.listing.proofs.put_line.Goals as goal
 
 pub slice_bounds-put_text-end-then-fits : goal.slice_bounds-put_text-end-then-fits

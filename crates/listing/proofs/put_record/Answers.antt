@@ -4,7 +4,6 @@ use Rattle.model.specs.Replay.{text, word}
 use Prim.Native.Nat.{ℕ}
 use mathlib.Core.List.{List, ◌++◌}
 use mathlib.Core.Path.{◌∙◌, ap}
-use borrow.Author.Rules.{rules}
 use Rattle.listing.proofs.put_record.Goals as goal
 
 pub returns : goal.returns

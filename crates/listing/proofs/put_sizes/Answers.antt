@@ -4,7 +4,6 @@ use Prim.Native.Nat.{ℕ}
 use mathlib.Core.List.{List, ◌++◌}
 use mathlib.Core.Path.{◌∙◌, ap}
 use native.Mathlib.Omega.{arith}
-use borrow.Author.Rules.{rules}
 use Rattle.listing.proofs.put_sizes.Goals as goal
 
 pub add_word-e-requires : goal.add_word-e-requires

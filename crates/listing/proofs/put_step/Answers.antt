@@ -4,7 +4,6 @@ use Rattle.model.specs.Replay.{outcome_text}
 use Prim.Native.Nat.{ℕ}
 use mathlib.Core.List.{List, ◌++◌}
 use mathlib.Core.Path.{◌∙◌, ap}
-use borrow.Author.Rules.{rules}
 use Rattle.listing.proofs.put_step.Goals as goal
 
 pub returns : goal.returns

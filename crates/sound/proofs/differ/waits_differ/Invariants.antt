@@ -1,0 +1,11 @@
+use mathlib.Core.Path.{◌≡◌}
+use Prim.Native.Nat.{◌≤◌, ◌-◌}
+use Rattle.lists.specs.Places.{unlike}
+use Rattle.model.specs.Sound.{same_tag}
+use Rattle.sound.proofs.differ.waits_differ.Given as goal
+
+abbrev pub invariant-loop-i : goal.invariant-loop-i
+invariant-loop-i l = (l.n ≡ l.t.count) × (l.i ≤ l.n) × (l.ok ≡ unlike same_tag l.i l.t.waiting)
+
+abbrev pub decreases-loop-i : goal.decreases-loop-i
+decreases-loop-i l = l.n - l.i
