@@ -1,6 +1,5 @@
 -- Laws of a visit: the site put back as it was, and what the definitions say by the action decided.
 use mathlib.Core.Path.{◌≡◌, refl, ap, sym, subst, ◌∙◌}
-use mathlib.Core.List.{[], ◌∷◌}
 use mathlib.Core.Bool.{true, false}
 use Prim.Native.Nat.{ℕ, ◌≤◌, ◌<◌}
 use native.Mathlib.Omega.{arith}
@@ -8,8 +7,6 @@ use borrow.Author.Tests.{lt-ltb, le-ltb}
 use lib.Dec.{T, ltb, ltb→lt}
 use lib.ListN.{get_or}
 use lib.Seq.{set-get_or}
-use types.Run.{OneOf, miss}
-use denote.Enum.Declared.{tag_of}
 use Rattle.lists.proofs.Tests.{and_l, and_r}
 use Rattle.lists.proofs.Places.{array_at}
 use Rattle.model.specs.declared.Sizes.{Sizes}
@@ -33,7 +30,6 @@ use Rattle.model.specs.Sound.{waiting_fits, entry_fits, free_entry, sound}
 use Rattle.model.specs.Take.{entry_for, taken}
 use Rattle.model.specs.Handling.{place_of, facts_of, decided, performed, must_wait}
 use Rattle.model.specs.Steps.{unless, handled_at, issued, issued_at, retried, took, step_of, stalled_at, entered, entered_at, unstalled, resumed, resumed_at, taken_at, took_at}
-use Rattle.model.specs.contracts.Step as T
 use Rattle.promises.proofs.Sound.{Sound, ready_head, opened}
 use Rattle.promises.proofs.Room.{ready, site-room}
 use Rattle.promises.proofs.Took.{entry_below}
@@ -201,18 +197,17 @@ ask_room z x w p a e k m r t =
 -- A STEP THAT VISITS A SITE
 
 -- neither a send nor an arrival, nor a serve, nor a send-back
-pub step_visits : (s : System) (t : Step) → OneOf (0 ∷ 1 ∷ 3 ∷ 4 ∷ 5 ∷ 6 ∷ 7 ∷ []) (tag_of T.the_type t) → OneOf (0 ∷ 1 ∷ 2 ∷ 4 ∷ 5 ∷ 6 ∷ 7 ∷ []) (tag_of T.the_type t) →
-    OneOf (0 ∷ 1 ∷ 2 ∷ 3 ∷ 5 ∷ 6 ∷ 7 ∷ []) (tag_of T.the_type t) → OneOf (0 ∷ 1 ∷ 2 ∷ 3 ∷ 4 ∷ 6 ∷ 7 ∷ []) (tag_of T.the_type t) →
-    OneOf (0 ∷ 1 ∷ 2 ∷ 3 ∷ 4 ∷ 5 ∷ 7 ∷ []) (tag_of T.the_type t) →
+pub step_visits : (s : System) (t : Step) → ((i : ℕ) → t ≡ Send i → ⊥) → ((p : ℕ) → t ≡ ArriveMemory p → ⊥) → (t ≡ Serve → ⊥) →
+    (t ≡ SendBack → ⊥) → ((p : ℕ) → t ≡ ArriveSite p → ⊥) →
     step_of s t ≡ unless (ltb (site_visited t) s.sizes.sites) NoSuchSite s (visited s (site_visited t) (site_at s (site_visited t)) t)
 unfolding step_of issued retried took site_visited visited
 step_visits s (Issue i u n) k₂ k₃ k₄ k₅ k₆ = refl
 step_visits s (Retry i) k₂ k₃ k₄ k₅ k₆ = refl
-step_visits s (Send i) k₂ k₃ k₄ k₅ k₆ = absurd (miss (0 ∷ 1 ∷ 3 ∷ 4 ∷ 5 ∷ 6 ∷ 7 ∷ []) 2 tt k₂)
-step_visits s (ArriveMemory p) k₂ k₃ k₄ k₅ k₆ = absurd (miss (0 ∷ 1 ∷ 2 ∷ 4 ∷ 5 ∷ 6 ∷ 7 ∷ []) 3 tt k₃)
-step_visits s Serve k₂ k₃ k₄ k₅ k₆ = absurd (miss (0 ∷ 1 ∷ 2 ∷ 3 ∷ 5 ∷ 6 ∷ 7 ∷ []) 4 tt k₄)
-step_visits s SendBack k₂ k₃ k₄ k₅ k₆ = absurd (miss (0 ∷ 1 ∷ 2 ∷ 3 ∷ 4 ∷ 6 ∷ 7 ∷ []) 5 tt k₅)
-step_visits s (ArriveSite p) k₂ k₃ k₄ k₅ k₆ = absurd (miss (0 ∷ 1 ∷ 2 ∷ 3 ∷ 4 ∷ 5 ∷ 7 ∷ []) 6 tt k₆)
+step_visits s (Send i) k₂ k₃ k₄ k₅ k₆ = absurd (k₂ i refl)
+step_visits s (ArriveMemory p) k₂ k₃ k₄ k₅ k₆ = absurd (k₃ p refl)
+step_visits s Serve k₂ k₃ k₄ k₅ k₆ = absurd (k₄ refl)
+step_visits s SendBack k₂ k₃ k₄ k₅ k₆ = absurd (k₅ refl)
+step_visits s (ArriveSite p) k₂ k₃ k₄ k₅ k₆ = absurd (k₆ p refl)
 step_visits s (Take i) k₂ k₃ k₄ k₅ k₆ = refl
 
 pub sound_open : (s : System) → sound s ≡ true → Sound s
