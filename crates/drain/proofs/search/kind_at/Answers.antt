@@ -6,21 +6,11 @@ use borrow.Author.Rules.{rules}
 use Rattle.lists.specs.Places.{all_below}
 use Rattle.lists.proofs.Below.{below_at}
 use Rattle.model.specs.Drain.{kind_at}
-use Rattle.drain.proofs.search.kind_at.Statement.{statement}
-use Rattle.drain.proofs.search.kind_at.Tie as tie
+use Rattle.drain.proofs.search.kind_at.Goals as goal
 
-mul-result : tie.Need-overflow-mul-result
-mul-result c = search rules
-
-array-read-result : tie.Need-array-read-result
-array-read-result c = search rules
-
-returns : tie.Need-returns
+pub returns : goal.returns
 unfolding all_below
 returns c =
     let kinds : List ℕ = 7 ∷ 6 ∷ 5 ∷ 4 ∷ 3 ∷ 2 ∷ 1 ∷ [] in
     let turn = c.args.turn in
     eqb→eq (get_or kinds turn 0) (kind_at turn) (below_at 7 (λ j. eqb (get_or kinds j 0) (kind_at j)) tt turn (search rules))
-
-pub kind-at-spec : {M : Type 1} → statement M
-kind-at-spec = tie.close (tie.spec mul-result array-read-result returns)
