@@ -42,3 +42,30 @@ pub fn write_full<W: Write>(output: &mut W, buf: &[u8]) -> io::Result<()>
     }
     Ok(())
 }
+
+#[cfg(test)]
+mod tests {
+    use super::*;
+
+    #[test]
+    fn reads_to_the_end(rt: HostRuntime) -> io::Result<()> {
+        let mut input: &[u8] = b"seven";
+        let mut buf = [0u8; 3];
+        let first = read_full(&mut input, &mut buf)?;
+        assert_eq!(rt; &buf[..first], b"sev".as_slice());
+        let second = read_full(&mut input, &mut buf)?;
+        assert_eq!(rt; &buf[..second], b"en".as_slice());
+        Ok(())
+    }
+
+    #[test]
+    fn writes_while_there_is_room(rt: HostRuntime) -> io::Result<()> {
+        let mut room = [0u8; 8];
+        let mut output: &mut [u8] = &mut room;
+        write_full(&mut output, b"seven")?;
+        let taken = write_full(&mut output, b"eight");
+        assert!(rt; taken.is_err());
+        assert_eq!(rt; room.as_slice(), b"seveneig".as_slice());
+        Ok(())
+    }
+}
