@@ -5,28 +5,25 @@ use Prim.Native.Nat.{ℕ, ◌*◌, min}
 use lib.Dec.{T, leb}
 use lib.ListN.{length}
 use Rattle.lists.proofs.Tests.{by_cond}
-use Rattle.model.specs.declared.Given.{Given}
 use Rattle.model.specs.declared.System.{System}
 use Rattle.model.specs.declared.Sizes.{Sizes}
 use Rattle.model.specs.declared.Refusal.{Refusal}
-use Rattle.model.specs.declared.Refusal.TheVariants.{NotSound, NoRecord, BufferShort}
+use Rattle.model.specs.declared.Refusal.TheVariants.{NotSound, BufferShort}
 use Rattle.model.specs.declared.Wrote.{Wrote}
 use Rattle.model.specs.declared.Wrote.TheVariants.{Past, NotWritten}
 use Rattle.model.specs.Limits.{may_be_fresh, most_drain}
-use Rattle.model.specs.Fresh.{no_sizes, blank, done, refused, fresh_of}
+use Rattle.model.specs.Fresh.{fresh_of}
 use Rattle.model.specs.Given.{answer_given, refusal_given, number_of, given}
 use Rattle.model.specs.Sound.{sound}
 use Rattle.model.specs.Drain.{drain_gives, undrained, drained, drained_with, drain_of}
-use Rattle.model.specs.Record.{Written, written, sizes_of, write_sizes, write_step}
+use Rattle.model.specs.Record.{Written, sizes_of, write_step}
 use Rattle.codes.specs.declared.kinds.Named.{Named}
 use Rattle.codes.specs.declared.kinds.Named.TheVariants.{Known, Unknown}
 use Rattle.codes.specs.Named.{named_by}
 use Rattle.promises.specs.Promises.{Kept}
 use Rattle.promises.proofs.Demands.{refused_stays, write_keeps}
-use Rattle.calls.specs.declared.DrainGiven.{DrainGiven}
-use Rattle.calls.specs.declared.WriteGiven.{WriteGiven}
 use Rattle.calls.specs.declared.values.Stepped.{Stepped}
-use Rattle.calls.specs.Calls.{stepped_by, numbered, fresh_call, unnamed, step_named, DrainBy, drain_result, drain_call, WriteBy, wrote_numbers, wrote_result, write_sizes_call, write_record_call, write_named}
+use Rattle.calls.specs.Calls.{numbered, fresh_call, step_named, DrainBy, drain_result, drain_call, WriteBy, wrote_numbers, wrote_result, write_sizes_call, write_record_call, write_named}
 use Rattle.calls.specs.Promises.{Promised, is_refusal, StepCallKeeps, NotDrained, DrainCallKeeps, NotFresh, FreshCallZero, NotPut, WriteByKeeps, WriteSizesCallKeeps, WriteStepCallKeeps, WriteRecordCallKeeps}
 use Rattle.calls.proofs.Whole.{rows_name, whole-written, whole_as_steps, whole_keeps}
 

@@ -1,10 +1,10 @@
 -- What is promised of a record written whole.
-use mathlib.Core.Path.{◌≡◌, refl, ap, sym, ◌∙◌}
+use mathlib.Core.Path.{◌≡◌, refl, sym, ◌∙◌}
 use mathlib.Core.List.{List, [], ◌∷◌, flat_map}
 use native.Mathlib.Omega.{arith}
 use native.Mathlib.Nat.{zero-add}
 use Prim.Native.Nat.{ℕ}
-use lib.ListN.{length, get_or}
+use lib.ListN.{get_or}
 use lib.Seq.{sets-eq}
 use Rattle.lists.proofs.Tests.{by_cond, T_true}
 use Rattle.model.specs.declared.Instruction.{Instruction}
@@ -16,7 +16,6 @@ use Rattle.model.specs.declared.Sizes.{Sizes}
 use Rattle.model.specs.Limits.{in_limits}
 use Rattle.model.specs.Issue.{kind_of}
 use Rattle.model.specs.Record.{operands, numbers_of, record_of, instruction_of, move_of}
-use Rattle.codes.specs.declared.kinds.Named.{Named}
 use Rattle.codes.specs.declared.kinds.Named.TheVariants.{Known}
 use Rattle.codes.specs.Named.{named_by}
 use Rattle.promises.specs.Promises.{Kept}

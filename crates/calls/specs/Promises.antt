@@ -18,7 +18,7 @@ use Rattle.promises.specs.Reading.{write_record}
 use Rattle.promises.specs.Promises.{Kept}
 use Rattle.calls.specs.declared.DrainGiven.{DrainGiven}
 use Rattle.calls.specs.declared.WriteGiven.{WriteGiven}
-use Rattle.calls.specs.Calls.{stepped_by, fresh_call, step_call, DrainBy, drained_by, drain_call, WriteBy, wrote_by, write_sizes_call, write_step_call, write_record_call}
+use Rattle.calls.specs.Calls.{stepped_by, fresh_call, step_call, drained_by, drain_call, WriteBy, wrote_by, write_sizes_call, write_step_call, write_record_call}
 
 -- the number says that the call was refused
 abbrev pub is_refusal : ℕ → Bool
