@@ -56,13 +56,13 @@ rows_name (x ∷ xs) = rw (step_named_lem x, rows_name xs)
 
 -- WRITTEN WHOLE
 
-pub whole-written : WholeWritten
+pub whole_written : WholeWritten
 unfolding write_whole write_rows
-whole-written z xs buf t m l =
+whole_written z xs buf t m l =
     rw (T_true (in_limits z) t, rows_name xs, written_at_lem (record_of z xs) buf 0 (omega arith) (omega arith), sets-eq (record_of z xs) buf 0 (omega arith), zero-add)
 
 pub whole_as_steps : WholeAsSteps
-whole_as_steps z xs buf t m l = whole-written z xs buf t m l ∙ sym (record_put z xs buf t m l)
+whole_as_steps z xs buf t m l = whole_written z xs buf t m l ∙ sym (record_put z xs buf t m l)
 
 -- ALL OR NOTHING
 

@@ -33,10 +33,10 @@ StepCallKeeps =
 
 -- what a refused drain leaves and gives: system and buffer as they were, and no number but the refusal's
 pub record NotDrained (s s' : System) (buf buf' : List ℕ) (r : DrainGiven) : Type 0 where
-  pub system-kept : s' ≡ s
-  pub buffer-kept : buf' ≡ buf
-  pub no-quiet : r.quiet ≡ 0
-  pub no-count : r.count ≡ 0
+  pub system_kept : s' ≡ s
+  pub buffer_kept : buf' ≡ buf
+  pub no_quiet : r.quiet ≡ 0
+  pub no_count : r.count ≡ 0
   pub no_length : r.length ≡ 0
 
 -- Numbers 17b and 17d, of mwb_drain.
@@ -60,7 +60,7 @@ FreshCallZero =
 
 -- what a refused write leaves and gives: the buffer as it was, and no offset
 pub record NotPut (buf buf' : List ℕ) (r : WriteGiven) : Type 0 where
-  pub buffer-kept : buf' ≡ buf
+  pub buffer_kept : buf' ≡ buf
   pub no_next : r.next ≡ 0
 
 -- a call whose result and buffer are w writes nothing where it refuses
@@ -119,5 +119,5 @@ pub record Promised : Type 0 where
   pub whole_keeps : WholeKeeps
   -- Demand 2
   pub rows_name : RowsName
-  pub whole-written : WholeWritten
+  pub whole_written : WholeWritten
   pub whole_as_steps : WholeAsSteps
