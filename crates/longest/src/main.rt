@@ -5,10 +5,11 @@ ghost use Rattle.std.specs.Prelude.{◌≤◌};
 
 use codes::refusals::is_done;
 use drain::drain;
-use io::{print_decimal, write_all};
 use model::{Drained, Outcome, ReadSizes, ReadStep, Refusal, System};
 use record::{read_sizes, read_step};
+use std::io;
 use steps::step;
+use streams::read_full;
 
 // A state, with how many steps led to it and how many of them were accepted.
 #[derive(Clone, Copy)]
@@ -45,11 +46,8 @@ fn take_steps(s: System, bytes: &[u8], start: usize) -> Reached {
     }
 }
 
-fn put_steps(r: Reached) {
-    print_decimal(1, r.steps);
-    write_all(1, b" steps, accepted ");
-    print_decimal(1, r.accepted);
-    write_all(1, b"\n");
+fn put_steps(rt: &impl Print, r: Reached) -> io::Result<()> {
+    println!(rt; "{} steps, accepted {}", r.steps, r.accepted)
 }
 
 fn is_short(o: Outcome) -> bool {
@@ -63,33 +61,26 @@ fn is_short(o: Outcome) -> bool {
 }
 
 // A drain's line: its budget, the bytes of its buffer, its count, the length of what it wrote, and whether the system is quiet.
-fn put_drained(budget: usize, room: usize, d: Drained) {
-    write_all(1, b"budget ");
-    print_decimal(1, budget as u64);
-    write_all(1, b" buffer ");
-    print_decimal(1, room as u64);
+fn put_drained(rt: &impl Print, budget: usize, room: usize, d: Drained) -> io::Result<()> {
+    print!(rt; "budget {budget} buffer {room}")?;
     let outcome = d.outcome;
     if is_short(outcome) {
-        write_all(1, b" refused 11");
+        print!(rt; " refused 11")?;
     }
-    write_all(1, b" count ");
-    print_decimal(1, d.count as u64);
-    write_all(1, b" length ");
-    print_decimal(1, d.length as u64);
+    print!(rt; " count {} length {}", d.count, d.length)?;
     if d.quiet {
-        write_all(1, b" quiet\n");
-        return;
+        return println!(rt; " quiet");
     }
-    write_all(1, b" not quiet\n");
+    println!(rt; " not quiet")
 }
 
 // Drains with a buffer of so many bytes.
-fn drain_within(s: System, budget: usize, room: usize)
+fn drain_within(rt: &impl Print, s: System, budget: usize, room: usize) -> io::Result<()>
     requires { room ≤ 1312 }
 {
     let mut buf = [255u8; 1312];
     let d = drain(s, budget, &mut buf[0..room]);
-    put_drained(budget, room, d);
+    put_drained(rt, budget, room, d)
 }
 
 // How many bytes from an offset on are 255, which a drain never writes.
@@ -107,39 +98,38 @@ fn untouched(buf: &[u8], from: usize) -> u64 {
 }
 
 // What the longest drain wrote leads to the state that it left, and it wrote nothing past its length.
-fn drain_again(s: System) {
+fn drain_again(rt: &impl Print, s: System) -> io::Result<()> {
     let mut buf = [255u8; 1312];
     let d = drain(s, 656, &mut buf);
     let length = d.length;
-    write_all(1, b"past the length ");
-    print_decimal(1, untouched(&buf, length));
-    write_all(1, b" bytes as they were\n");
+    let kept = untouched(&buf, length);
+    println!(rt; "past the length {kept} bytes as they were")?;
     if 1312 < length {
-        return;
+        return Ok(());
     }
     let again = take_steps(s, &buf[0..length], 0);
-    write_all(1, b"read back ");
-    put_steps(again);
-    drain_within(again.system, 656, 1312);
+    print!(rt; "read back ")?;
+    put_steps(rt, again)?;
+    drain_within(rt, again.system, 656, 1312)
 }
 
-fn main() {
-    let mut bytes = io::large_buffer();
-    let size = io::read_full(0, &mut bytes);
+fn main(rt: HostRuntime) -> io::Result<()> {
+    let mut bytes = [0u8; 65536];
+    let size = read_full(&mut rt.stdin(), &mut bytes)?;
     let got = read_sizes(&bytes[0..size]);
     let ReadSizes::Sized(z, past) = got else {
-        return;
+        return Ok(());
     };
     let fresh = System::fresh(z);
     let r = take_steps(fresh.system, &bytes[0..size], past);
-    put_steps(r);
+    put_steps(&rt, r)?;
     let s = r.system;
-    drain_within(s, 656, 1312);
-    drain_within(s, 655, 1312);
-    drain_within(s, 18446744073709551615, 1312);
-    drain_within(s, 656, 1311);
-    drain_within(s, 655, 1310);
-    drain_within(s, 655, 1309);
-    drain_within(s, 0, 0);
-    drain_again(s);
+    drain_within(&rt, s, 656, 1312)?;
+    drain_within(&rt, s, 655, 1312)?;
+    drain_within(&rt, s, 18446744073709551615, 1312)?;
+    drain_within(&rt, s, 656, 1311)?;
+    drain_within(&rt, s, 655, 1310)?;
+    drain_within(&rt, s, 655, 1309)?;
+    drain_within(&rt, s, 0, 0)?;
+    drain_again(&rt, s)
 }

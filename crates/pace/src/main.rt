@@ -5,11 +5,12 @@ ghost use Rattle.std.specs.Prelude.{◌≡◌, true};
 ghost use Rattle.model.specs.Sound.{sound};
 
 use codes::refusals::is_done;
-use io::{print_decimal, write_all};
 use model::{ReadSizes, ReadStep, System};
 use record::{read_sizes, read_step};
 use sound::is_sound;
+use std::io;
 use steps::step_sound;
+use streams::read_full;
 
 // How often the record is taken.
 const ROUNDS: u64 = 50;
@@ -48,21 +49,18 @@ fn take_rounds(s: System, bytes: &[u8], start: usize) -> u64
     accepted
 }
 
-fn main() {
-    let mut bytes = io::large_buffer();
-    let size = io::read_full(0, &mut bytes);
+fn main(rt: HostRuntime) -> io::Result<()> {
+    let mut bytes = [0u8; 65536];
+    let size = read_full(&mut rt.stdin(), &mut bytes)?;
     let got = read_sizes(&bytes[0..size]);
     let ReadSizes::Sized(z, past) = got else {
-        return;
+        return Ok(());
     };
     let fresh = System::fresh(z);
     let s = fresh.system;
     if !is_sound(s) {
-        return;
+        return Ok(());
     }
     let accepted = take_rounds(s, &bytes[0..size], past);
-    print_decimal(1, ROUNDS);
-    write_all(1, b" rounds of ");
-    print_decimal(1, accepted);
-    write_all(1, b" steps accepted\n");
+    println!(rt; "{ROUNDS} rounds of {accepted} steps accepted")
 }

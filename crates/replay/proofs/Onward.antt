@@ -6,8 +6,6 @@ use mathlib.Core.Bool.{Bool, true, false}
 use Prim.Native.Nat.{ℕ, ◌+◌, ◌≤◌, ◌<◌}
 use native.Mathlib.Numerals.{add-one}
 use native.Mathlib.Omega.{arith}
-use types.Run.{OneOf, miss}
-use denote.Enum.Declared.{tag_of}
 use lib.Dec.{T}
 use lib.ListN.{length, take}
 use Rattle.listing.specs.Room.{most_line}
@@ -18,7 +16,6 @@ use Rattle.model.specs.declared.Refusal.{Refusal}
 use Rattle.model.specs.declared.ReadStep.{ReadStep}
 use Rattle.model.specs.declared.ReadStep.TheVariants.{One, End, NoStep}
 use Rattle.model.specs.declared.Wrote.TheVariants.{Past, NotWritten}
-use Rattle.model.specs.contracts.ReadStep as R
 use Rattle.model.specs.Sound.{sound}
 use Rattle.model.specs.Steps.{step_of, stepped}
 use Rattle.model.specs.Record.{read_step, written, put_at}
@@ -45,10 +42,10 @@ pub still_sound_lem : (l : Listed) → l.ended ≡ false → Going l → sound l
 still_sound_lem l e g = ⊎_elim (λ t. absurd (subst T (sym t ∙ e) tt)) (λ h. h) g.0
 
 -- the line behind the last step is what is listed there
-last_is : (bs : List ℕ) (at n : ℕ) (s : System) (got : ReadStep) → read_step bs at ≡ got → OneOf (1 ∷ 2 ∷ []) (tag_of R.the_type got) →
+last_is : (bs : List ℕ) (at n : ℕ) (s : System) (got : ReadStep) → read_step bs at ≡ got → ((x : Step) (next : ℕ) → got ≡ One x next → ⊥) →
     listed_at bs at n s ≡ last_line got s
 unfolding last_line
-last_is bs at n s (One x next) e k = absurd (miss (1 ∷ 2 ∷ []) 0 tt k)
+last_is bs at n s (One x next) e k = absurd (k x next refl)
 last_is bs at n s End e k = listed-end bs at n s e
 last_is bs at n s (NoStep why) e k = listed-fault bs at n s why e
 
@@ -92,7 +89,7 @@ module _ (bs buf₀ : List ℕ) (from : Listed) where
         }
 
     -- the last line was put
-    pub finish : (got : ReadStep) (end : ℕ) → read_step bs at ≡ got → OneOf (1 ∷ 2 ∷ []) (tag_of R.the_type got) →
+    pub finish : (got : ReadStep) (end : ℕ) → read_step bs at ≡ got → ((x : Step) (n : ℕ) → got ≡ One x n → ⊥) →
         written (Past end) after ≡ put_at (last_line got s) buf used → Done after (record { system = s; at = at; count = count; length = end; ended = true })
     unfolding to_list
     finish got end r k w =

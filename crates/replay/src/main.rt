@@ -1,7 +1,8 @@
-// Replay: a record on standard input, its listing on standard output. The contracts say what stands in the buffer; print_listing writes the buffer out.
+// Replay: a record on standard input, its listing on standard output. The contracts say what stands in the buffer, and what print_listing writes out.
 #![tactic(auto)]
 
-ghost use Rattle.std.specs.Prelude.{◌≡◌, true, false, ◌≤◌, length};
+ghost use Rattle.std.specs.Prelude.{◌≡◌, ℕ, true, false, ◌≤◌, length, take, OnOk, OnErr};
+ghost use Rattle.std.specs.Io.KnownBytes.{Appends};
 ghost use Rattle.listing.specs.Room.{most_line};
 ghost use Rattle.model.specs.Limits.{in_limits};
 ghost use Rattle.model.specs.Record.{past_of, written, put_at};
@@ -13,7 +14,11 @@ use listing::{MOST_LINE, put_left, put_record, put_sizes, put_step};
 use model::{ReadSizes, ReadStep, Refusal, Sizes, System, Wrote};
 use numbers::fits;
 use record::{read_sizes, read_step};
+use std::io;
+use std::io::Write;
+use std::process::ExitCode;
 use steps::step_sound;
+use streams::{read_full, write_full};
 
 // How far a listing is: the system, the offset of the next step, how many steps were listed, the bytes of the buffer in use, and whether the last line is
 // among them.
@@ -148,32 +153,36 @@ fn list_on(bytes: &[u8], from: Listed, buf: &mut [u8]) -> Listed
     }
 }
 
-fn complain() {
-    io::write_all(2, b"replay: standard output takes no more\n");
+fn complain(rt: &impl Eprint) {
+    let _ = rt.eprintln("replay: standard output takes no more");
 }
 
-// Writes the listing out, a buffer at a time.
-fn print_listing(bytes: &[u8], buf: &mut [u8])
+// Writes the listing out, a buffer at a time. A write that fails ends it with that error; what was written before it is a start of the listing.
+fn print_listing<W: Write>(bytes: &[u8], buf: &mut [u8], output: &mut W) -> io::Result<()>
     requires { most_line ≤ length buf.old }
+    ensures ok { OnOk result (Appends (W.contents output.old) (W.contents output.new) (listing bytes.now)) }
+    ensures err { OnErr result ((n : ℕ) × (n ≤ length (listing bytes.now)) × Appends (W.contents output.old) (W.contents output.new) (take n (listing bytes.now))) }
 {
     let mut listed = list_sizes(bytes, buf);
     'parts: loop {
         let length = listed.length;
-        if !io::write_all(1, &buf[0..length]) {
-            complain();
-            break 'parts;
-        }
+        write_full(output, &buf[0..length])?;
         if listed.ended {
             break 'parts;
         }
         listed = list_on(bytes, listed, buf);
     }
+    Ok(())
 }
 
 // A byte more is read than a record may have, so that a longer one shows.
-fn main() {
+fn main(rt: HostRuntime) -> io::Result<ExitCode> {
     let mut bytes = [0u8; 65537];
-    let size = io::read_full(0, &mut bytes);
-    let mut buf = io::large_buffer();
-    print_listing(&bytes[0..size], &mut buf);
+    let size = read_full(&mut rt.stdin(), &mut bytes)?;
+    let mut buf = [0u8; 65536];
+    if print_listing(&bytes[0..size], &mut buf, &mut rt.stdout()).is_err() {
+        complain(&rt);
+        return Ok(ExitCode::FAILURE);
+    }
+    Ok(ExitCode::SUCCESS)
 }

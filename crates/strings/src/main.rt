@@ -11,6 +11,7 @@ use crate::sums::{mix_refusal, mix_sizes, mix_step, more};
 use crate::text::put;
 use model::{ReadSizes, ReadStep, Step, Wrote};
 use record::{read_sizes, read_step, write_step};
+use std::io;
 
 // What was seen of some strings: how many there were, whose sizes are good, that read to the end, the steps read, those written again as they stood, and
 // a sum over everything that the readers gave.
@@ -35,14 +36,14 @@ fn nothing() -> Seen {
     }
 }
 
-fn put_seen(what: &[u8], seen: Seen) {
-    put(what, seen.strings);
-    put(b" strings, sized ", seen.sized);
-    put(b", whole ", seen.whole);
-    put(b", steps ", seen.steps);
-    put(b", written again ", seen.again);
-    put(b", sum ", seen.sum);
-    io::write_all(1, b"\n");
+fn put_seen(rt: &impl Print, what: &str, seen: Seen) -> io::Result<()> {
+    put(rt, what, seen.strings)?;
+    put(rt, " strings, sized ", seen.sized)?;
+    put(rt, ", whole ", seen.whole)?;
+    put(rt, ", steps ", seen.steps)?;
+    put(rt, ", written again ", seen.again)?;
+    put(rt, ", sum ", seen.sum)?;
+    rt.println("")
 }
 
 // The step, written, is what stands between the two offsets.
@@ -204,12 +205,12 @@ fn longest(size: usize) -> Seen
     read_string(&bytes[0..size], nothing())
 }
 
-fn main() {
-    put_seen(b"0 bytes: ", every_string(0, 1));
-    put_seen(b"1 byte: ", every_string(1, 256));
-    put_seen(b"2 bytes: ", every_string(2, 65536));
-    put_seen(b"3 bytes: ", every_string(3, 16777216));
-    put_seen(b"4 to 40 bytes: ", random_strings(3000000));
-    put_seen(b"65536 bytes: ", longest(65536));
-    put_seen(b"65537 bytes: ", longest(65537));
+fn main(rt: HostRuntime) -> io::Result<()> {
+    put_seen(&rt, "0 bytes: ", every_string(0, 1))?;
+    put_seen(&rt, "1 byte: ", every_string(1, 256))?;
+    put_seen(&rt, "2 bytes: ", every_string(2, 65536))?;
+    put_seen(&rt, "3 bytes: ", every_string(3, 16777216))?;
+    put_seen(&rt, "4 to 40 bytes: ", random_strings(3000000))?;
+    put_seen(&rt, "65536 bytes: ", longest(65536))?;
+    put_seen(&rt, "65537 bytes: ", longest(65537))
 }
