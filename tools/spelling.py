@@ -4,7 +4,7 @@
 usage: python3 tools/spelling.py [--list]
 
 A definition, a lemma, a field and a constructor are in snake case (`siteAt` becomes `site_at`, `run-is-sound` becomes `run_is_sound`).
-A dash stays where it joins the names of two definitions, as in `count-all_of`. Types keep their capitals. A lemma that would meet another name gets `_lem`.
+A dash stays where it joins the names of two definitions, as in `count-all_of`, but in no field. Types keep their capitals. A lemma that would meet another name gets `_lem`.
 In edits a projection is written tight. Turned are the antt files, the clauses and ghost imports of .rt files, the lines old: and new: of must-fail edits, the code spans of pages, and docs/NAMES.txt.
 Strings, the names of functions of src/ and of what C calls, inputs and outputs stay. --list prints the table and turns nothing.
 """
@@ -55,7 +55,7 @@ def declared():
     """Each name that a file of specs/ or proofs/ declares, with whether a file of specs/ does; a function's own Proof.antt names goals alone."""
     names = collections.defaultdict(bool)
     for p in sources():
-        if not p.endswith(".antt") or p.endswith("/Proof.antt"):
+        if not p.endswith(".antt") or p.endswith(("/Proof.antt", "/Answers.antt", "/Invariants.antt")):
             continue
         for line in read(p).splitlines():
             if line.lstrip().startswith("--"):
@@ -71,12 +71,17 @@ def words(name):
     return re.sub(r"(?<=[a-z0-9])([A-Z])", lambda m: "_" + m[1].lower(), name)
 
 
-def respelled(name, names):
+def fields():
+    """The names of the fields of the records of specs/."""
+    return {m[1] for p in sources() if "/specs/" in p for m in re.finditer(r"(?m)^  pub (" + WORD + r") :", read(p))}
+
+
+def respelled(name, names, fields):
     if name.startswith("◌") or not re.search(r"[a-z0-9][A-Z]|-", name) or "-" not in name and name[0].isupper():
         return name
     parts = [words(p) if p[0].islower() else p for p in name.split("-")]
     functions = LIBRARY | {words(n) for n in names if names[n]}
-    for cut in range(len(parts) - 1, 0, -1):
+    for cut in range(len(parts) - 1, 0, -1) if name not in fields else ():
         left, right = "_".join(parts[:cut]), "_".join(parts[cut:])
         if left in functions and right in functions:
             return left + "-" + right
@@ -84,8 +89,8 @@ def respelled(name, names):
 
 
 def table():
-    names = declared()
-    rows = {n: respelled(n, names) for n in [*names, *LOCAL]}
+    names, of_records = declared(), fields()
+    rows = {n: respelled(n, names, of_records) for n in [*names, *LOCAL]}
     taken = collections.defaultdict(list)
     for n in sorted(rows):
         taken[rows[n]].append(n)

@@ -5,30 +5,27 @@ use Prim.Native.Nat.{ℕ, ◌*◌, min}
 use lib.Dec.{T, leb}
 use lib.ListN.{length}
 use Rattle.lists.proofs.Tests.{by_cond}
-use Rattle.model.specs.declared.Given.{Given}
 use Rattle.model.specs.declared.System.{System}
 use Rattle.model.specs.declared.Sizes.{Sizes}
 use Rattle.model.specs.declared.Refusal.{Refusal}
-use Rattle.model.specs.declared.Refusal.TheVariants.{NotSound, NoRecord, BufferShort}
+use Rattle.model.specs.declared.Refusal.TheVariants.{NotSound, BufferShort}
 use Rattle.model.specs.declared.Wrote.{Wrote}
 use Rattle.model.specs.declared.Wrote.TheVariants.{Past, NotWritten}
 use Rattle.model.specs.Limits.{may_be_fresh, most_drain}
-use Rattle.model.specs.Fresh.{no_sizes, blank, done, refused, fresh_of}
+use Rattle.model.specs.Fresh.{fresh_of}
 use Rattle.model.specs.Given.{answer_given, refusal_given, number_of, given}
 use Rattle.model.specs.Sound.{sound}
 use Rattle.model.specs.Drain.{drain_gives, undrained, drained, drained_with, drain_of}
-use Rattle.model.specs.Record.{Written, written, sizes_of, write_sizes, write_step}
+use Rattle.model.specs.Record.{Written, sizes_of, write_step}
 use Rattle.codes.specs.declared.kinds.Named.{Named}
 use Rattle.codes.specs.declared.kinds.Named.TheVariants.{Known, Unknown}
 use Rattle.codes.specs.Named.{named_by}
 use Rattle.promises.specs.Promises.{Kept}
 use Rattle.promises.proofs.Demands.{refused_stays, write_keeps}
-use Rattle.calls.specs.declared.DrainGiven.{DrainGiven}
-use Rattle.calls.specs.declared.WriteGiven.{WriteGiven}
 use Rattle.calls.specs.declared.values.Stepped.{Stepped}
-use Rattle.calls.specs.Calls.{stepped_by, numbered, fresh_call, unnamed, step_named, DrainBy, drain_result, drain_call, WriteBy, wrote_numbers, wrote_result, write_sizes_call, write_record_call, write_named}
+use Rattle.calls.specs.Calls.{numbered, fresh_call, step_named, DrainBy, drain_result, drain_call, WriteBy, wrote_numbers, wrote_result, write_sizes_call, write_record_call, write_named}
 use Rattle.calls.specs.Promises.{Promised, is_refusal, StepCallKeeps, NotDrained, DrainCallKeeps, NotFresh, FreshCallZero, NotPut, WriteByKeeps, WriteSizesCallKeeps, WriteStepCallKeeps, WriteRecordCallKeeps}
-use Rattle.calls.proofs.Whole.{rows_name, whole-written, whole_as_steps, whole_keeps}
+use Rattle.calls.proofs.Whole.{rows_name, whole_written, whole_as_steps, whole_keeps}
 
 -- THE LENT SYSTEM
 
@@ -46,7 +43,7 @@ abbrev Drains : System → List ℕ → DrainBy → Type 0
 Drains s buf d = T (is_refusal d.given.number) → NotDrained s d.system buf d.buffer d.given
 
 not-drained : (s : System) (buf : List ℕ) (r : Refusal) → Drains s buf (drain_result (drain_gives (undrained r s) buf))
-not-drained s buf r t = record { system-kept = refl; buffer-kept = refl; no-quiet = refl; no-count = refl; no_length = refl }
+not-drained s buf r t = record { system_kept = refl; buffer_kept = refl; no_quiet = refl; no_count = refl; no_length = refl }
 
 drain_kept : (s : System) (budget : ℕ) (buf : List ℕ) → Drains s buf (drain_call s budget buf)
 unfolding drain_call drain_of given answer_given
@@ -86,7 +83,7 @@ write_kept at buf w k = go w.wrote refl
   where
     go : (o : Wrote) → w.wrote ≡ o → T (is_refusal (wrote_numbers o).number) → NotPut buf w.buffer (wrote_numbers o)
     go (Past next) e t = absurd t
-    go (NotWritten r) e t = record { buffer-kept = k.refused-kept r e; no_next = refl }
+    go (NotWritten r) e t = record { buffer_kept = k.refused_kept r e; no_next = refl }
 
 -- the same of what a call gives by its contract
 by_contract : (buf : List ℕ) (w : WriteBy) → Writes buf w → WriteByKeeps buf w
@@ -99,7 +96,7 @@ write_sizes_call_keeps sites words lines sets pend stall buf = by_contract buf _
 step_put : (x : Named) (buf : List ℕ) (at : ℕ) → Writes buf (write_named x buf at)
 unfolding write_named wrote_numbers
 step_put (Known x) buf at = write_kept at buf (write_step x buf at) (write_keeps.1 x buf at)
-step_put (Unknown place) buf at = λ t. record { buffer-kept = refl; no_next = refl }
+step_put (Unknown place) buf at = λ t. record { buffer_kept = refl; no_next = refl }
 
 pub write_step_call_keeps : WriteStepCallKeeps
 write_step_call_keeps k i n t a b buf at = by_contract buf _ (step_put (named_by k i n t a b) buf at)
@@ -120,6 +117,6 @@ promised = record {
   write_record_call_keeps = write_record_call_keeps;
   whole_keeps = whole_keeps;
   rows_name = rows_name;
-  whole-written = whole-written;
+  whole_written = whole_written;
   whole_as_steps = whole_as_steps;
 }

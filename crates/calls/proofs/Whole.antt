@@ -1,10 +1,10 @@
 -- What is promised of a record written whole.
-use mathlib.Core.Path.{◌≡◌, refl, ap, sym, ◌∙◌}
+use mathlib.Core.Path.{◌≡◌, refl, sym, ◌∙◌}
 use mathlib.Core.List.{List, [], ◌∷◌, flat_map}
 use native.Mathlib.Omega.{arith}
 use native.Mathlib.Nat.{zero-add}
 use Prim.Native.Nat.{ℕ}
-use lib.ListN.{length, get_or}
+use lib.ListN.{get_or}
 use lib.Seq.{sets-eq}
 use Rattle.lists.proofs.Tests.{by_cond, T_true}
 use Rattle.model.specs.declared.Instruction.{Instruction}
@@ -16,7 +16,6 @@ use Rattle.model.specs.declared.Sizes.{Sizes}
 use Rattle.model.specs.Limits.{in_limits}
 use Rattle.model.specs.Issue.{kind_of}
 use Rattle.model.specs.Record.{operands, numbers_of, record_of, instruction_of, move_of}
-use Rattle.codes.specs.declared.kinds.Named.{Named}
 use Rattle.codes.specs.declared.kinds.Named.TheVariants.{Known}
 use Rattle.codes.specs.Named.{named_by}
 use Rattle.promises.specs.Promises.{Kept}
@@ -57,13 +56,13 @@ rows_name (x ∷ xs) = rw (step_named_lem x, rows_name xs)
 
 -- WRITTEN WHOLE
 
-pub whole-written : WholeWritten
+pub whole_written : WholeWritten
 unfolding write_whole write_rows
-whole-written z xs buf t m l =
+whole_written z xs buf t m l =
     rw (T_true (in_limits z) t, rows_name xs, written_at_lem (record_of z xs) buf 0 (omega arith) (omega arith), sets-eq (record_of z xs) buf 0 (omega arith), zero-add)
 
 pub whole_as_steps : WholeAsSteps
-whole_as_steps z xs buf t m l = whole-written z xs buf t m l ∙ sym (record_put z xs buf t m l)
+whole_as_steps z xs buf t m l = whole_written z xs buf t m l ∙ sym (record_put z xs buf t m l)
 
 -- ALL OR NOTHING
 

@@ -18,7 +18,7 @@ use Rattle.promises.specs.Reading.{write_record}
 use Rattle.promises.specs.Promises.{Kept}
 use Rattle.calls.specs.declared.DrainGiven.{DrainGiven}
 use Rattle.calls.specs.declared.WriteGiven.{WriteGiven}
-use Rattle.calls.specs.Calls.{stepped_by, fresh_call, step_call, DrainBy, drained_by, drain_call, WriteBy, wrote_by, write_sizes_call, write_step_call, write_record_call}
+use Rattle.calls.specs.Calls.{stepped_by, fresh_call, step_call, drained_by, drain_call, WriteBy, wrote_by, write_sizes_call, write_step_call, write_record_call}
 
 -- the number says that the call was refused
 abbrev pub is_refusal : ℕ → Bool
@@ -33,10 +33,10 @@ StepCallKeeps =
 
 -- what a refused drain leaves and gives: system and buffer as they were, and no number but the refusal's
 pub record NotDrained (s s' : System) (buf buf' : List ℕ) (r : DrainGiven) : Type 0 where
-  pub system-kept : s' ≡ s
-  pub buffer-kept : buf' ≡ buf
-  pub no-quiet : r.quiet ≡ 0
-  pub no-count : r.count ≡ 0
+  pub system_kept : s' ≡ s
+  pub buffer_kept : buf' ≡ buf
+  pub no_quiet : r.quiet ≡ 0
+  pub no_count : r.count ≡ 0
   pub no_length : r.length ≡ 0
 
 -- Numbers 17b and 17d, of mwb_drain.
@@ -60,7 +60,7 @@ FreshCallZero =
 
 -- what a refused write leaves and gives: the buffer as it was, and no offset
 pub record NotPut (buf buf' : List ℕ) (r : WriteGiven) : Type 0 where
-  pub buffer-kept : buf' ≡ buf
+  pub buffer_kept : buf' ≡ buf
   pub no_next : r.next ≡ 0
 
 -- a call whose result and buffer are w writes nothing where it refuses
@@ -119,5 +119,5 @@ pub record Promised : Type 0 where
   pub whole_keeps : WholeKeeps
   -- Demand 2
   pub rows_name : RowsName
-  pub whole-written : WholeWritten
+  pub whole_written : WholeWritten
   pub whole_as_steps : WholeAsSteps

@@ -1,6 +1,6 @@
 -- Samples of the calls: each field that a call gives back, done and refused.
 use Rattle.std.specs.Prelude.{List, [], ◌∷◌, ◌++◌, ℕ, replicate}
-use Rattle.model.specs.Sampling.{done, value, ack, no, sizes_now, memory_line, entries_of, waiting_of, outgoing_of, up_now, left_now}
+use Rattle.model.specs.Sampling.{done, value, ack, no, sizes_now, entries_of, waiting_of, outgoing_of, left_now}
 use Rattle.calls.specs.Sampling.{CallAct, steps, drains, sound_is, shows, CallSample, CallRow, ◌∶◌, fresh, reads_sizes, reads_step, writes_sizes, writes_step}
 
 -- six zeros: the sizes of a state of all 0, or what a refused reading leaves out

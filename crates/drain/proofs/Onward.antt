@@ -102,8 +102,8 @@ start s budget buf h k = record {
 }
 
 module _ {s : System} {budget : ℕ} {lent : List ℕ} {t : System} {count at : ℕ} {buf : List ℕ} (r : Onward s budget lent t count at buf) where
-  pub length-kept : length buf ≡ length lent
-  length-kept = ap length r.bytes ∙ length-sets lent 0 (steps_bytes r.steps)
+  pub length_kept : length buf ≡ length lent
+  length_kept = ap length r.bytes ∙ length-sets lent 0 (steps_bytes r.steps)
 
   safe : Sound t
   safe = sound_open t r.keeps
@@ -166,7 +166,7 @@ module _ {s : System} {budget : ℕ} {lent : List ℕ} {t : System} {count at : 
       has-place l =
           let most : at + length (step_bytes x) ≤ 2 * min budget most_drain =
           omega (arith, left l, lower, in_two, r.falls, r.short, potential_most s (sound_open s r.begun)) in
-          (omega (arith, most), omega (arith, most, r.room, length-kept))
+          (omega (arith, most), omega (arith, most, r.room, length_kept))
 
       turned : (m : ℕ) → drained (suc m) t ≡ further x (drained m after)
       unfolding drained

@@ -20,7 +20,7 @@ use Rattle.promises.specs.Runs.{after_run, Event, issued, answered, events, Turn
 use Rattle.promises.specs.Promises.{run, Alternating, AllAnswered}
 use Rattle.promises.proofs.Sound.{Sound, limits}
 use Rattle.promises.proofs.Stepping.{stepping}
-use Rattle.promises.proofs.Kept.{kept, fresh-sound, blank-site}
+use Rattle.promises.proofs.Kept.{kept, fresh_sound, blank-site}
 use Rattle.promises.proofs.Quiet.{Idle, quiet_idle}
 use Rattle.promises.proofs.Public.{stepped-sound, run-kept}
 use Rattle.promises.proofs.Answers.{outstanding, left, form_of, by_forms, issues_as, answers_as, issue_in, answer_in, step_once, none_left, Issuing, no_issue, one_issue, issuing, Answering, no_answer, one_answer, answering}
@@ -133,7 +133,7 @@ accounted s h xs i t =
 
 module _ (z : Sizes) (l : T (may_be_fresh z)) where
   fresh_out : (i t : ℕ) (b : Bool) → outstanding i t b (blank z) ≡ 0
-  fresh_out i t b = none_left (blank z) (fresh-sound z l) i t idle b
+  fresh_out i t b = none_left (blank z) (fresh_sound z l) i t idle b
     where
       idle : Idle (blank z)
       idle j k =
@@ -143,12 +143,12 @@ module _ (z : Sizes) (l : T (may_be_fresh z)) where
   -- Where no instruction is outstanding at any site, each accepted one has been answered.
   pub settled : (xs : List Step) → Idle (run z xs) → (i t : ℕ) → count is_issued (events i t (blank z) xs) ≡ count is_answered (events i t (blank z) xs)
   settled xs e i t =
-      let h : Sound (blank z) = fresh-sound z l in
+      let h : Sound (blank z) = fresh_sound z l in
       let none : (b : Bool) → outstanding i t b (run z xs) ≡ 0 = none_left (run z xs) (run-kept (blank z) h xs) i t e in
       omega (arith, accounted (blank z) h xs i t, fresh_out i t true, fresh_out i t false, none true, none false)
 
 pub alternates : Alternating
-alternates z l xs i t = alternate_by i t (blank z) (fresh-sound z l) free (fresh_out z l i t) xs
+alternates z l xs i t = alternate_by i t (blank z) (fresh_sound z l) free (fresh_out z l i t) xs
 
 -- as many answers as instructions, with what is due before them, or one fewer
 counts_near : (u : Turn) (es : List Event) → T (alternate u es) →
@@ -164,5 +164,5 @@ counts_near (due b) (answered c ∷ es) t = omega (arith, counts_near free es (a
 pub one_behind : (es : List Event) → T (alternate free es) → (count is_answered es ≤ count is_issued es) × (count is_issued es ≤ count is_answered es + 1)
 one_behind es t = omega (arith, counts_near free es t)
 
-pub all-answered : AllAnswered
-all-answered z l xs q = settled z l xs (quiet_idle (run z xs) (run-kept (blank z) (fresh-sound z l) xs) q)
+pub all_answered : AllAnswered
+all_answered z l xs q = settled z l xs (quiet_idle (run z xs) (run-kept (blank z) (fresh_sound z l) xs) q)

@@ -31,7 +31,7 @@ use Rattle.promises.proofs.Stepping.{Stepping, refusing, fenced, stalling, handl
 use Rattle.promises.proofs.Change.{put_sum}
 use Rattle.promises.proofs.Moves.{reached_site}
 use Rattle.promises.proofs.Took.{entry_below}
-use Rattle.promises.proofs.Kept.{kept, fresh-sound}
+use Rattle.promises.proofs.Kept.{kept, fresh_sound}
 use Rattle.promises.proofs.Potential.{displacing, stall_cost, site_left, potential, potential_most}
 use Rattle.promises.proofs.Cost.{stalled_left, unstalled_left, performed_left, taken_left}
 use Rattle.promises.proofs.Public.{stepped-sound}
@@ -173,4 +173,4 @@ most_moves s h xs t =
 
 pub run_bound : (z : Sizes) → T (may_be_fresh z) → (xs : List Step) →
     accepted is_move (blank z) xs ≤ 13 * accepted issues_trip (blank z) xs + 7 * accepted issues_reconcile (blank z) xs
-run_bound z t xs = omega (arith, run_left (blank z) (fresh-sound z t) xs, fresh-none z)
+run_bound z t xs = omega (arith, run_left (blank z) (fresh_sound z t) xs, fresh-none z)

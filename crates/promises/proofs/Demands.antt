@@ -30,24 +30,24 @@ use Rattle.promises.proofs.Sound.{Sound, opened, closed}
 use Rattle.promises.proofs.Room.{the_limits, ready, net_places}
 use Rattle.promises.proofs.Stepping.{Stepping, refusing, fenced, stalling, handling, resuming, sending, arriving, serving, returning, reaching, tooking, stepping}
 use Rattle.promises.proofs.Public.{stepped-sound, run-kept, run-sizes}
-use Rattle.promises.proofs.Kept.{kept, fresh-sound}
+use Rattle.promises.proofs.Kept.{kept, fresh_sound}
 use Rattle.promises.proofs.Bound.{run_bound, most_moves}
 use Rattle.promises.proofs.Quiet.{quiet_all, all_quiet, quiet_none}
 use Rattle.promises.proofs.Drain.{drained_always, room_always, drained-bytes}
-use Rattle.promises.proofs.Alternate.{alternates, one_behind, all-answered}
+use Rattle.promises.proofs.Alternate.{alternates, one_behind, all_answered}
 use Rattle.promises.proofs.Choices.{choices, accepted_candidate, candidates-once}
 use Rattle.promises.proofs.Readers.{sizes_faulty, sizes-read, numbers-within}
 use Rattle.promises.proofs.ReadBack.{read_back}
 use Rattle.promises.proofs.ReadOff.{read_off}
 use Rattle.promises.proofs.Endings.{step_on, all_read, same_reading, fault-placed}
 use Rattle.promises.proofs.Listed.{whole-listing}
-use Rattle.promises.proofs.Writes.{all-bytes, record_put, writes_keep}
+use Rattle.promises.proofs.Writes.{all_bytes, record_put, writes_keep}
 use Rattle.promises.proofs.Drained.{drained-read, drained-kept}
 
 -- GIVEN BACK
 
-pub done-given : DoneGiven
-done-given = done_by_number
+pub done_given : DoneGiven
+done_given = done_by_number
 
 pub refusal_given_lem : RefusalGiven
 refusal_given_lem = refusal_unanswered
@@ -66,14 +66,14 @@ pub fresh_is_sound : FreshSound
 unfolding fresh_of
 fresh_is_sound z =
     by_test (in_limits z)
-    (λ t. rw (T_true (in_limits z) t) (T_true (sound (blank z)) (closed (blank z) (fresh-sound z t))))
+    (λ t. rw (T_true (in_limits z) t) (T_true (sound (blank z)) (closed (blank z) (fresh_sound z t))))
     (λ t. rw (F_false (in_limits z) t) no-sizes)
 
 pub step_is_sound : StepSound
 step_is_sound s x t = rw (stepped-sound s (opened s t) x) (closed (step_of s x).system (kept s (opened s t) x))
 
 pub run_is_sound : RunSound
-run_is_sound z t xs = (closed (run z xs) (run-kept (blank z) (fresh-sound z t) xs), run-sizes (blank z) (fresh-sound z t) xs)
+run_is_sound z t xs = (closed (run z xs) (run-kept (blank z) (fresh_sound z t) xs), run-sizes (blank z) (fresh_sound z t) xs)
 
 -- a refused step leaves the state
 stays : (s : System) (x : Step) (r : After) → Stepping s x r → T (not (is_done r.outcome)) → r.system ≡ s
@@ -122,7 +122,7 @@ pub one_outstanding : OneOutstanding
 one_outstanding z l xs i t = one_behind (events i t (blank z) xs) (alternates z l xs i t)
 
 pub all_are_answered : AllAnswered
-all_are_answered = all-answered
+all_are_answered = all_answered
 
 -- FROM A SYSTEM THAT `fresh` GAVE
 
@@ -144,9 +144,9 @@ demand_three_bound z g xs = let b : Blank z = fresh-blank z g in rw b.is_blank (
 -- a run from the blank system that has come to its end
 ended : (z : Sizes) → T (in_limits z) → (xs : List Step) → T (quiet (run z xs)) → Ended (blank z) xs
 ended z t xs q = record {
-  no-message = quiet_empty (run z xs) (run_is_sound z t xs).0 q;
+  no_message = quiet_empty (run z xs) (run_is_sound z t xs).0 q;
   in_turn = λ i u. alternating z t xs i u;
-  all-answered = λ i u. all_are_answered z t xs q i u;
+  all_answered = λ i u. all_are_answered z t xs q i u;
 }
 
 pub demand_three_answered : DemandThreeAnswered
@@ -209,12 +209,12 @@ roomy s h =
     }
 
 pub run_roomy : RunRoomy
-run_roomy z t xs = roomy (run z xs) (run-kept (blank z) (fresh-sound z t) xs)
+run_roomy z t xs = roomy (run z xs) (run-kept (blank z) (fresh_sound z t) xs)
 
 -- THE RECORD
 
 pub record_bytes : RecordBytes
-record_bytes = all-bytes
+record_bytes = all_bytes
 
 pub record_read : RecordRead
 record_read = read_back
@@ -222,8 +222,8 @@ record_read = read_back
 pub record_only : RecordOnly
 record_only = read_off
 
-pub read-once : ReadOnce
-read-once = same_reading
+pub read_once : ReadOnce
+read_once = same_reading
 
 pub sizes_on : SizesOn
 sizes_on bs z past e = (numbers-within bs 0 (six_of z) past (sizes-read bs e).six (omega arith)).1
@@ -231,22 +231,22 @@ sizes_on bs z past e = (numbers-within bs 0 (six_of z) past (sizes-read bs e).si
 pub read_on : ReadOn
 read_on = step_on
 
-pub read-answered : ReadAnswered
-read-answered = all_read
+pub read_answered : ReadAnswered
+read_answered = all_read
 
-pub sizes-fault : SizesFault
-sizes-fault = sizes_faulty
+pub sizes_fault : SizesFault
+sizes_fault = sizes_faulty
 
-pub read-fault : ReadFault
-read-fault = fault-placed
+pub read_fault : ReadFault
+read_fault = fault-placed
 
 pub all_bytes_judged : AllBytes
-all_bytes_judged bs b = go (read-answered bs)
+all_bytes_judged bs b = go (read_answered bs)
   where
     go : Read bs → Verdict bs
     go (as_record z xs h) = good z xs (record_only bs b z xs h)
-    go (sizes_refused r e) = bad_sizes r e (sizes-fault bs r e)
-    go (step_refused z past xs r e u) = bad_step z past xs r e u (read-fault bs past xs r (sizes_on bs z past e) u)
+    go (sizes_refused r e) = bad_sizes r e (sizes_fault bs r e)
+    go (step_refused z past xs r e u) = bad_step z past xs r e u (read_fault bs past xs r (sizes_on bs z past e) u)
 
 pub record_written : RecordWritten
 record_written = record_put
@@ -256,34 +256,34 @@ write_keeps = writes_keep
 
 -- THE LISTING
 
-pub listing-whole : ListingWhole
-listing-whole = whole-listing
+pub listing_whole : ListingWhole
+listing_whole = whole-listing
 
 -- ALL OF IT
 
 pub promised : Promised
 promised = record {
-  done-given = done-given;
+  done_given = done_given;
   refusal_given_lem = refusal_given_lem;
   refused_stays = refused_stays;
   drain_keeps = drain_keeps;
   write_keeps = write_keeps;
-  fresh-sound = fresh_is_sound;
+  fresh_sound = fresh_is_sound;
   step_sound = step_is_sound;
   run_sound = run_is_sound;
   run_roomy = run_roomy;
   record_bytes = record_bytes;
   record_read = record_read;
   record_only = record_only;
-  read-once = read-once;
+  read_once = read_once;
   sizes_on = sizes_on;
   read_on = read_on;
-  read-answered = read-answered;
-  sizes-fault = sizes-fault;
-  read-fault = read-fault;
-  all-bytes = all_bytes_judged;
+  read_answered = read_answered;
+  sizes_fault = sizes_fault;
+  read_fault = read_fault;
+  all_bytes = all_bytes_judged;
   record_written = record_written;
-  listing-whole = listing-whole;
+  listing_whole = listing_whole;
   drain_fits = drain_fits;
   drain_read = drain_read;
   drain_taken = drain_taken;
@@ -292,7 +292,7 @@ promised = record {
   quiet_empty = quiet_empty;
   alternating = alternating;
   one_outstanding = one_outstanding;
-  all-answered = all_are_answered;
+  all_answered = all_are_answered;
   demand_three_bound = demand_three_bound;
   demand_three_answered = demand_three_answered;
   moves_most = moves_most;

@@ -51,16 +51,16 @@ refusal_same : (s : System) (buf : List ℕ) (r q : Refusal) → (drain_gives (u
 refusal_same s buf r q e = (refl, refl)
 
 refusal_kept : (s : System) (buf : List ℕ) (r : Refusal) → DrainKept s buf (drain_gives (undrained r s) buf)
-refusal_kept s buf r = record { length-kept = refl; refused-kept = refusal_same s buf r; others-kept = λ i l. refl }
+refusal_kept s buf r = record { length_kept = refl; refused_kept = refusal_same s buf r; others_kept = λ i l. refl }
 
 past-kept : (new buf : List ℕ) (i : ℕ) → length new ≤ i → get_or (sets buf 0 new) i 0 ≡ get_or buf i 0
 past-kept new buf i l = sets_kept new buf 0 i (λ k. omega arith)
 
 into_kept : (s : System) (d : Taken) (buf : List ℕ) → DrainKept s buf (drained_with d buf)
 into_kept s d buf = record {
-  length-kept = length-sets buf 0 (steps_bytes d.steps);
-  refused-kept = λ r e. (cc, cc);
-  others-kept = past-kept (steps_bytes d.steps) buf;
+  length_kept = length-sets buf 0 (steps_bytes d.steps);
+  refused_kept = λ r e. (cc, cc);
+  others_kept = past-kept (steps_bytes d.steps) buf;
 }
 
 pub drained-kept : DrainKeeps

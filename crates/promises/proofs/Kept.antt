@@ -219,9 +219,9 @@ none-site z i m =
     by_cond (λ (b : Bool). T b) (ltb i z.sites) (site_fits z i no_site) (free_site no_site) (λ l. ready_close z i no_site (none-ready z i m (ltb→lt i z.sites l)))
     (λ l. none-past)
 
-pub fresh-sound : (z : Sizes) → T (in_limits z) → Sound (blank z)
+pub fresh_sound : (z : Sizes) → T (in_limits z) → Sound (blank z)
 unfolding memory_fits total in_site sum_below weigh
-fresh-sound z t =
+fresh_sound z t =
     let m : Limits z = limits z t in
     record {
       sizes = t;

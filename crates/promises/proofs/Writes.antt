@@ -38,8 +38,8 @@ groups_bytes (suc g) n =
 numbers-bytes : (ns : List ℕ) → T (bytes (bytes_of_all ns))
 numbers-bytes = each_flat bytes_of _ (groups_bytes most_groups)
 
-pub all-bytes : RecordBytes
-all-bytes z xs = each_append _ (sizes_bytes z) (steps_bytes xs) (numbers-bytes (six_of z)) (each_flat step_bytes _ (λ x. numbers-bytes (numbers_of x)) xs)
+pub all_bytes : RecordBytes
+all_bytes z xs = each_append _ (sizes_bytes z) (steps_bytes xs) (numbers-bytes (six_of z)) (each_flat step_bytes _ (λ x. numbers-bytes (numbers_of x)) xs)
 
 -- ONE BEHIND THE OTHER
 
@@ -72,7 +72,7 @@ refusal_same : (buf : List ℕ) (r s : Refusal) → (written (NotWritten r) buf)
 refusal_same buf r s e = refl
 
 pub refusal_kept : (at : ℕ) (buf : List ℕ) (r : Refusal) → Kept at buf (written (NotWritten r) buf)
-refusal_kept at buf r = record { length-kept = refl; refused-kept = refusal_same buf r; others-kept = λ end i e h. refl }
+refusal_kept at buf r = record { length_kept = refl; refused_kept = refusal_same buf r; others_kept = λ end i e h. refl }
 
 -- a place before them, or past them
 pub sets_kept : (new buf : List ℕ) (at i : ℕ) → (at ≤ i → at + length new ≤ i) → get_or (sets buf at new) i 0 ≡ get_or buf i 0
@@ -90,9 +90,9 @@ at_kept new buf at =
     by_cond (Kept at buf) (leb (at + length new) most_bytes) _ _
     (λ t. by_cond (Kept at buf) (leb (at + length new) (length buf)) _ _
     (λ u. record {
-      length-kept = length-sets buf at new;
-      refused-kept = λ r e. cc;
-      others-kept = λ end i e h. let p : end ≡ at + length new = cc in sets_kept new buf at i (rw p at (past at end i h));
+      length_kept = length-sets buf at new;
+      refused_kept = λ r e. cc;
+      others_kept = λ end i e h. let p : end ≡ at + length new = cc in sets_kept new buf at i (rw p at (past at end i h));
     })
     (λ u. refusal_kept at buf BufferShort))
     (λ t. refusal_kept at buf RecordLong)

@@ -131,9 +131,9 @@ DemandThreeBound =
 -- what is left where a run from a fresh system has come to its end: no message, and at each site and under each tag as many answers as accepted
 -- instructions, taking turns
 pub record Ended (s : System) (xs : List Step) : Type 0 where
-  pub no-message : under_way (after_run s xs) ≡ []
+  pub no_message : under_way (after_run s xs) ≡ []
   pub in_turn : (i t : ℕ) → T (alternate free (events i t s xs))
-  pub all-answered : (i t : ℕ) → count is_issued (events i t s xs) ≡ count is_answered (events i t s xs)
+  pub all_answered : (i t : ℕ) → count is_issued (events i t s xs) ≡ count is_answered (events i t s xs)
 
 -- The second half: a run has come to its end where each step but an issue would be refused.
 abbrev pub DemandThreeAnswered : Type 0
@@ -177,9 +177,9 @@ DrainTaken =
 
 -- what a drain leaves alone: the buffer's length; the bytes past what it wrote; and, where it is refused, the state and every byte
 pub record DrainKept (s : System) (buf : List ℕ) (d : Drain) : Type 0 where
-  pub length-kept : length d.buffer ≡ length buf
-  pub refused-kept : (r : Refusal) → d.result.outcome ≡ Refused r → (d.result.system ≡ s) × (d.buffer ≡ buf)
-  pub others-kept : (i : ℕ) → d.result.length ≤ i → get_or d.buffer i 0 ≡ get_or buf i 0
+  pub length_kept : length d.buffer ≡ length buf
+  pub refused_kept : (r : Refusal) → d.result.outcome ≡ Refused r → (d.result.system ≡ s) × (d.buffer ≡ buf)
+  pub others_kept : (i : ℕ) → d.result.length ≤ i → get_or d.buffer i 0 ≡ get_or buf i 0
 
 -- Numbers 17 and Drain 6, of the drain: from any state, sound or not.
 abbrev pub DrainKeeps : Type 0
@@ -284,9 +284,9 @@ RecordWritten =
 
 -- what a write at an offset leaves alone: everything where it is refused, else all bytes but its own
 pub record Kept (at : ℕ) (before : List ℕ) (after : Written) : Type 0 where
-  pub length-kept : length after.buffer ≡ length before
-  pub refused-kept : (r : Refusal) → after.wrote ≡ NotWritten r → after.buffer ≡ before
-  pub others-kept : (end i : ℕ) → after.wrote ≡ Past end → (i < at) ⊎ (end ≤ i) → get_or after.buffer i 0 ≡ get_or before i 0
+  pub length_kept : length after.buffer ≡ length before
+  pub refused_kept : (r : Refusal) → after.wrote ≡ NotWritten r → after.buffer ≡ before
+  pub others_kept : (end i : ℕ) → after.wrote ≡ Past end → (i < at) ⊎ (end ≤ i) → get_or after.buffer i 0 ≡ get_or before i 0
 
 -- Numbers 17, of the writers of sizes and of a step.
 abbrev pub WriteKeeps : Type 0
@@ -306,12 +306,12 @@ ListingWhole =
 -- A field for each statement of this file. A field with no proof leaves `promised` in proofs/Demands.antt without a value, and the check fails.
 pub record Promised : Type 0 where
   -- Demand 1: an answer always, by number; a refusal leaves everything
-  pub done-given : DoneGiven
+  pub done_given : DoneGiven
   pub refusal_given_lem : RefusalGiven
   pub refused_stays : RefusedStays
   pub drain_keeps : DrainKeeps
   pub write_keeps : WriteKeeps
-  pub fresh-sound : FreshSound
+  pub fresh_sound : FreshSound
   pub step_sound : StepSound
   pub run_sound : RunSound
   pub run_roomy : RunRoomy
@@ -319,15 +319,15 @@ pub record Promised : Type 0 where
   pub record_bytes : RecordBytes
   pub record_read : RecordRead
   pub record_only : RecordOnly
-  pub read-once : ReadOnce
+  pub read_once : ReadOnce
   pub sizes_on : SizesOn
   pub read_on : ReadOn
-  pub read-answered : ReadAnswered
-  pub sizes-fault : SizesFault
-  pub read-fault : ReadFault
-  pub all-bytes : AllBytes
+  pub read_answered : ReadAnswered
+  pub sizes_fault : SizesFault
+  pub read_fault : ReadFault
+  pub all_bytes : AllBytes
   pub record_written : RecordWritten
-  pub listing-whole : ListingWhole
+  pub listing_whole : ListingWhole
   pub drain_fits : DrainFits
   pub drain_read : DrainRead
   pub drain_taken : DrainTaken
@@ -337,7 +337,7 @@ pub record Promised : Type 0 where
   pub quiet_empty : QuietEmpty
   pub alternating : Alternating
   pub one_outstanding : OneOutstanding
-  pub all-answered : AllAnswered
+  pub all_answered : AllAnswered
   pub demand_three_bound : DemandThreeBound
   pub demand_three_answered : DemandThreeAnswered
   pub moves_most : MovesMost

@@ -103,9 +103,9 @@ module _ (bs ms ns : List ℕ) (n i place : ℕ) where
       (ap (λ (j : ℕ). take j (set ns i v)) (add-one i) ∙ take-suc-set ns i v l) ∙
       one_prepended (take i ns) v (read_numbers (drop (i + 1) (take n ms)) bs past) ∙ ap (prepended (take i ns)) (sym (rw e at (left_is h k)))
 
-  pub read-fault : (p : ℕ) → i < n → n ≤ length ms → read_number (get_or ms i 0) bs place ≡ Fault p →
+  pub read_fault : (p : ℕ) → i < n → n ≤ length ms → read_number (get_or ms i 0) bs place ≡ Fault p →
       fault_at place ≡ prepended (take i ns) (read_numbers (drop i (take n ms)) bs place)
-  read-fault p h k e = ap fault_at (sym (fault-place (get_or ms i 0) bs place p e)) ∙ ap (prepended (take i ns)) (sym (rw e at (left_is h k)))
+  read_fault p h k e = ap fault_at (sym (fault-place (get_or ms i 0) bs place p e)) ∙ ap (prepended (take i ns)) (sym (rw e at (left_is h k)))
 
   pub read-end : n ≤ i → i ≤ n → numbers (take n ns) place ≡ prepended (take i ns) (read_numbers (drop i (take n ms)) bs place)
   unfolding read_numbers

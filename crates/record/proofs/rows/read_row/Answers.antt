@@ -2,7 +2,7 @@ use mathlib.Core.Path.{refl, sym, ◌∙◌, ◌≡◌}
 use native.Mathlib.Omega.{arith}
 use lib.ListN.{length-set, length}
 use borrow.Author.Rules.{rules}
-use Rattle.record.proofs.RowTurns.{none_prepended, read_turn, read-fault, read-end}
+use Rattle.record.proofs.RowTurns.{none_prepended, read_turn, read_fault, read-end}
 use Rattle.record.proofs.rows.read_row.Goals as goal
 
 pub loop-i-init : goal.loop-i-init
@@ -11,7 +11,7 @@ loop-i-init c = (omega arith, (refl, none_prepended _))
 pub returns-in_default : goal.returns-in_default
 returns-in_default c =
     let len : length c.args.limits.numbers ≡ 6 = search rules in
-    read-fault c.args.bytes.now c.args.limits.numbers c.loop-i.numbers c.args.limits.count c.loop-i.i c.loop-i.place _
+    read_fault c.args.bytes.now c.args.limits.numbers c.loop-i.numbers c.args.limits.count c.loop-i.i c.loop-i.place _
     c.loop-i-test.true (omega arith) (sym c.read_number-got.ensures ∙ c.in_default.is) ∙
     c.loop-i.invariant.1.1
 
