@@ -1,6 +1,5 @@
 use native.Mathlib.Omega.{arith}
 use lib.ListN.{length-append}
-use borrow.Author.Rules.{rules}
 use Rattle.lists.specs.Places.{all_of}
 use Rattle.model.specs.Sound.{under_way}
 use Rattle.left.proofs.messages_left.Goals as goal

@@ -1,14 +1,13 @@
-use mathlib.Core.Logic.{⊎_elim}
 use mathlib.Core.Bool.{not}
 use mathlib.Core.Path.{◌≡◌}
-use Prim.Native.Nat.{min, ◌≤◌, ◌-◌}
+use Prim.Native.Nat.{min}
 use native.Mathlib.Numerals.{add-one}
 use native.Mathlib.Omega.{arith}
 use lib.ListN.{get_or, length}
 use lib.Dec.{eqb}
 use borrow.Author.Tests.{eq-eqb, ne_eqb}
 use borrow.Author.Rules.{rules}
-use Rattle.lists.specs.Places.{ind, tally, weigh}
+use Rattle.lists.specs.Places.{ind, weigh}
 use Rattle.lists.proofs.Long.{length_mapped}
 use Rattle.model.specs.Parts.{past_entry}
 use Rattle.model.specs.Kinds.{voluntary}
@@ -32,8 +31,8 @@ loop-i-preserved c =
       elim c.if-e-ne4.branch [ then-e-ne4 w ↦ search rules | else-e-ne4 w ↦ search rules ],
       rw (add-one, weigh_turn (λ (e : Entry). ind (not (eqb e.kind voluntary))) i es past_entry (omega arith))
           (elim c.if-e-ne4.branch [
-            then-e-ne4 w ↦ rw (ne_eqb kind 4 (λ q. omega arith)) (omega arith)
-          | else-e-ne4 w ↦ rw (eq-eqb kind 4 (omega arith)) (omega arith)
+            | then-e-ne4 w ↦ rw (ne_eqb kind 4 (λ q. omega arith)) (omega arith)
+            | else-e-ne4 w ↦ rw (eq-eqb kind 4 (omega arith)) (omega arith)
           ]),
     )
 

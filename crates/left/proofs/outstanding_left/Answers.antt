@@ -1,5 +1,5 @@
 use mathlib.Core.Path.{◌≡◌}
-use Prim.Native.Nat.{min, ◌≤◌, ◌-◌, ◌*◌}
+use Prim.Native.Nat.{min}
 use native.Mathlib.Omega.{arith}
 use native.Mathlib.Numerals.{add-one}
 use lib.ListN.{length}
@@ -7,7 +7,6 @@ use borrow.Author.Rules.{rules}
 use Rattle.lists.specs.Places.{sum_below}
 use Rattle.lists.proofs.Long.{length_mapped}
 use Rattle.model.specs.Left.{outstanding_at}
-use Rattle.model.specs.Parts.{site_at}
 use Rattle.left.proofs.Remaining.{outstanding_within}
 use Rattle.left.proofs.outstanding_left.Goals as goal
 
