@@ -55,7 +55,7 @@ def declared():
     """Each name that a file of specs/ or proofs/ declares, with whether a file of specs/ does; a function's own Proof.antt names goals alone."""
     names = collections.defaultdict(bool)
     for p in sources():
-        if not p.endswith(".antt") or p.endswith(("/Proof.antt", "/Answers.antt", "/Invariants.antt")):
+        if not p.endswith(".antt") or re.search(r"/proofs/.+/(Proof|Answers|Invariants)\.antt$", p):
             continue
         for line in read(p).splitlines():
             if line.lstrip().startswith("--"):
