@@ -3,7 +3,6 @@ use Rattle.model.specs.declared.After.{After}
 use mathlib.Core.Path.{◌≡◌, ap, ◌∙◌}
 use Rattle.model.specs.Replay.{sizes_line}
 use Rattle.replay.proofs.Lists.{first_line}
-use borrow.Author.Rules.{rules}
 use Rattle.replay.proofs.begin.Goals as goal
 
 pub returns : goal.returns

@@ -4,7 +4,6 @@ use Rattle.promises.proofs.Readers.{sizes-read}
 use Rattle.lists.proofs.Tests.{T_true}
 use native.Mathlib.Omega.{arith}
 use mathlib.Core.Path.{sym, ◌∙◌}
-use borrow.Author.Rules.{rules}
 use Rattle.replay.proofs.list_sizes.Goals as goal
 
 pub begin-requires : goal.begin-requires

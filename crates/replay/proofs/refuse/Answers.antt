@@ -5,7 +5,6 @@ use Rattle.model.specs.declared.Sizes.{Sizes}
 use Rattle.model.specs.declared.After.{After}
 use Rattle.replay.proofs.Lists.{first_line}
 use mathlib.Core.Path.{◌≡◌, ap, ◌∙◌}
-use borrow.Author.Rules.{rules}
 use Rattle.replay.proofs.refuse.Goals as goal
 
 pub returns : goal.returns
