@@ -10,7 +10,7 @@
  *     object or right past its end, and not null; nothing is touched.
  *   - A lent buffer overlaps neither a lent system nor lent numbers.
  *
- * The library keeps nothing between calls and allocates nothing; a call takes some 45 KB of stack at most. Threads may call it at once with systems and buffers of their own; what
+ * The library keeps nothing between calls and allocates nothing; a call takes some 48 KB of stack at most. Threads may call it at once with systems and buffers of their own; what
  * is lent to a call must not be used by another thread meanwhile.
  */
 #ifndef MWB_H
