@@ -15,56 +15,31 @@ returns-then-size-gt-MOST_BYTES c = rw (lt-leb (length c.args.bytes.now) most_by
 
 pub returns-then-at-size : goal.returns-then-at-size
 unfolding read_step_of
-returns-then-at-size c =
-    rw (le-leb (length c.args.bytes.now) most_bytes c.if-size-gt-MOST_BYTES.false, eq-eqb _ _ c.if-at-size.true)
+returns-then-at-size c = rw (le-leb (length c.args.bytes.now) most_bytes c.if-size-gt-MOST_BYTES.false, eq-eqb _ _ c.if-at-size.true)
 
 pub returns-in_default : goal.returns-in_default
 unfolding read_step_of step_at
 returns-in_default c =
     let e = sym c.read_number-got.ensures ∙ c.in_default.is in
-    rw (
-      le-leb (length c.args.bytes.now) most_bytes
-          c.if-size-gt-MOST_BYTES.false,
-      ne_eqb _ _ c.if-at-size.false,
-      e,
-      step_at,
-    )
+    rw (le-leb (length c.args.bytes.now) most_bytes c.if-size-gt-MOST_BYTES.false, ne_eqb _ _ c.if-at-size.false, e, step_at)
     (ap (λ (p : ℕ). NoStep (NoRecord p)) (sym (fault-place _ _ _ _ e)))
 
 pub returns-then-kind-gt7 : goal.returns-then-kind-gt7
 unfolding read_step_of step_at read_fields
 returns-then-kind-gt7 c =
-    rw (
-      le-leb (length c.args.bytes.now) most_bytes
-          c.if-size-gt-MOST_BYTES.false,
-      ne_eqb _ _ c.if-at-size.false,
-      sym c.read_number-got.ensures ∙ c.in-Number.is,
-      lt-leb _ 7 c.if-kind-gt7.true,
-      step_at,
-    )
+    let e = sym c.read_number-got.ensures ∙ c.in-Number.is in
+    rw (le-leb (length c.args.bytes.now) most_bytes c.if-size-gt-MOST_BYTES.false, ne_eqb _ _ c.if-at-size.false, e, lt-leb _ 7 c.if-kind-gt7.true, step_at)
 
 pub returns-then-kind-eq0 : goal.returns-then-kind-eq0
 unfolding read_step_of step_at read_fields
 returns-then-kind-eq0 c =
-    rw (
-      le-leb (length c.args.bytes.now) most_bytes
-          c.if-size-gt-MOST_BYTES.false,
-      ne_eqb _ _ c.if-at-size.false,
-      sym c.read_number-got.ensures ∙ c.in-Number.is,
-      le-leb _ 7 c.if-kind-gt7.false,
-      eq-eqb _ _ c.if-kind-eq0.true,
-      step_at,
-    ) c.read_issue.ensures
+    let e = sym c.read_number-got.ensures ∙ c.in-Number.is in
+    rw (le-leb (length c.args.bytes.now) most_bytes c.if-size-gt-MOST_BYTES.false, ne_eqb _ _ c.if-at-size.false, e, le-leb _ 7 c.if-kind-gt7.false, eq-eqb _ _ c.if-kind-eq0.true, step_at)
+    c.read_issue.ensures
 
 pub returns : goal.returns
 unfolding read_step_of step_at read_fields
 returns c =
-    rw (
-      le-leb (length c.args.bytes.now) most_bytes
-          c.if-size-gt-MOST_BYTES.false,
-      ne_eqb _ _ c.if-at-size.false,
-      sym c.read_number-got.ensures ∙ c.in-Number.is,
-      le-leb _ 7 c.if-kind-gt7.false,
-      ne_eqb _ _ c.if-kind-eq0.false,
-      step_at,
-    ) c.read_move.ensures
+    let e = sym c.read_number-got.ensures ∙ c.in-Number.is in
+    rw (le-leb (length c.args.bytes.now) most_bytes c.if-size-gt-MOST_BYTES.false, ne_eqb _ _ c.if-at-size.false, e, le-leb _ 7 c.if-kind-gt7.false, ne_eqb _ _ c.if-kind-eq0.false, step_at)
+    c.read_move.ensures
