@@ -40,7 +40,7 @@ pub(crate) fn read_issue(bytes: &[u8], at: usize) -> ReadStep
 
 // The limits of the numbers behind an instruction's number: its tag and its operands.
 fn issue_limits(kind: u32) -> Row
-    ensures result_value { listed result ≡ issue_limits kind }
+    ensures value { listed result ≡ issue_limits kind }
     ensures count { result.count ≤ 6 }
 {
     if kind == 1 {

@@ -80,9 +80,9 @@ fn begin(buf: &mut [u8], z: Sizes, past: usize) -> Listed
 // Lists the sizes. A fresh system is sound (`run_is_sound`, promises/proofs/Demands).
 fn list_sizes(bytes: &[u8], buf: &mut [u8]) -> Listed
     requires { most_line ≤ length buf.old }
-    ensures result_after { in_all bytes.now buf.new result ≡ listing bytes.now }
+    ensures whole { in_all bytes.now buf.new result ≡ listing bytes.now }
     ensures going { Going result }
-    ensures length_in_bounds { result.length ≤ length buf.old }
+    ensures within { result.length ≤ length buf.old }
 {
     let got = read_sizes(bytes);
     match got {
@@ -94,7 +94,7 @@ fn list_sizes(bytes: &[u8], buf: &mut [u8]) -> Listed
 // The line behind the last step: what is left, or the fault.
 fn put_last(buf: &mut [u8], at: usize, got: ReadStep, s: System) -> Wrote
     ensures buf_after { written result buf.new ≡ put_at (last_line got s) buf.old at }
-    ensures s_len_bound { length (last_line got s) ≤ most_line }
+    ensures short { length (last_line got s) ≤ most_line }
 {
     let ReadStep::NoStep(why) = got else {
         let outstanding = outstanding_left(s);
@@ -108,9 +108,9 @@ fn put_last(buf: &mut [u8], at: usize, got: ReadStep, s: System) -> Wrote
 // (`sound_again`, steps/proofs/Again).
 fn list_on(bytes: &[u8], from: Listed, buf: &mut [u8]) -> Listed
     requires { (from.ended ≡ false) × (Going from) × (most_line ≤ length buf.old) }
-    ensures result_after { in_all bytes.now buf.new result ≡ to_list bytes.now from }
+    ensures whole { in_all bytes.now buf.new result ≡ to_list bytes.now from }
     ensures going { Going result }
-    ensures length_in_bounds { result.length ≤ length buf.old }
+    ensures within { result.length ≤ length buf.old }
     ensures further { Further bytes.now from result }
 {
     let mut s = from.system;

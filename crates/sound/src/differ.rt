@@ -62,8 +62,8 @@ fn pends_differ(p: Pends) -> bool
 
 // No stalled instruction has the tag of an entry, voluntary ones aside.
 fn tags_apart(p: Pends, t: Stalls) -> bool
-    requires count_bound { p.count ≤ 5 }
-    requires count_bound_2 { t.count ≤ 8 }
+    requires few_entries { p.count ≤ 5 }
+    requires few_waiting { t.count ≤ 8 }
     ensures { result ≡ each_of (λ (w : Waiting). none_of (pends_under w.tag) p.count p.entries) t.count t.waiting }
 {
     let n = p.count as usize;
@@ -81,8 +81,8 @@ fn tags_apart(p: Pends, t: Stalls) -> bool
 
 // A site uses no tag twice at a time (Parts 9h).
 pub(crate) fn tags_differ(p: Pends, t: Stalls) -> bool
-    requires count_bound { p.count ≤ 5 }
-    requires count_bound_2 { t.count ≤ 8 }
+    requires few_entries { p.count ≤ 5 }
+    requires few_waiting { t.count ≤ 8 }
     ensures { result ≡ tags_differ p.count p.entries t.count t.waiting }
 {
     waits_differ(t) & pends_differ(p) & tags_apart(p, t)

@@ -79,8 +79,8 @@ pub(crate) fn far_named(q: Queue, t: Names) -> Names
 
 // The table with the messages of all sites' queues.
 pub(crate) fn sites_named(outgoing: [SiteQueue; 4], incoming: [SiteQueue; 4], t: Names) -> Names
-    requires by_index { (i : ℕ) → i < 4 → (get_or outgoing i past_site_queue).count ≤ 5 }
-    requires by_index_2 { (i : ℕ) → i < 4 → (get_or incoming i past_site_queue).count ≤ 5 }
+    requires few_outgoing { (i : ℕ) → i < 4 → (get_or outgoing i past_site_queue).count ≤ 5 }
+    requires few_incoming { (i : ℕ) → i < 4 → (get_or incoming i past_site_queue).count ≤ 5 }
     ensures { result.of ≡ tallied (all_of 4 (near_at outgoing incoming)) t.of }
 {
     let mut next = t;
@@ -140,8 +140,8 @@ fn entries_named(p: Pends, i: u8, t: Names) -> bool
 
 // Each entry of each site has exactly one message.
 pub(crate) fn all_named(pends: [Pends; 4], sites: u8, t: Names) -> bool
-    requires sites_bound { sites ≤ 4 }
-    requires by_index { (i : ℕ) → i < 4 → (get_or pends i past_pends).count ≤ 5 }
+    requires few_sites { sites ≤ 4 }
+    requires few_entries { (i : ℕ) → i < 4 → (get_or pends i past_pends).count ≤ 5 }
     ensures { result ≡ all_below sites (λ i. each_of (one_for t.of i) (get_or pends i past_pends).count (get_or pends i past_pends).entries) }
 {
     let mut ok = true;

@@ -37,21 +37,21 @@ lines-preserved c =
 pub returns-in_default-wrote : goal.returns-in_default-wrote
 returns-in_default-wrote c =
     let pre = c.requires in
-    let d = full c.args.bytes.now c.args.buf.now (anew c.args.from.system c.args.from.at c.args.from.count) c.lines.buf c.put_last-wrote.new.buf c.lines.s c.lines.at c.lines.count c.lines.length c.lines.ended c.lines.invariant (last_line c.read_step-got.result c.lines.s) c.in_default-wrote.field-0 c.put_last-wrote.ensures.s_len_bound pre.2 (ap (λ (w : Wrote). written w c.put_last-wrote.new.buf) (sym c.in_default-wrote.is) ∙ c.put_last-wrote.ensures.buf_after) in
-    record { result_after = d.0 ∙ anew_same c.args.bytes.now c.args.from pre.0; going = d.1.0; length_in_bounds = d.1.1.0; further = d.1.1.1 }
+    let d = full c.args.bytes.now c.args.buf.now (anew c.args.from.system c.args.from.at c.args.from.count) c.lines.buf c.put_last-wrote.new.buf c.lines.s c.lines.at c.lines.count c.lines.length c.lines.ended c.lines.invariant (last_line c.read_step-got.result c.lines.s) c.in_default-wrote.field-0 c.put_last-wrote.ensures.short pre.2 (ap (λ (w : Wrote). written w c.put_last-wrote.new.buf) (sym c.in_default-wrote.is) ∙ c.put_last-wrote.ensures.buf_after) in
+    record { whole = d.0 ∙ anew_same c.args.bytes.now c.args.from pre.0; going = d.1.0; within = d.1.1.0; further = d.1.1.1 }
 
 pub returns-in-Past : goal.returns-in-Past
 returns-in-Past c =
     let pre = c.requires in
     let d = finish c.args.bytes.now c.args.buf.now (anew c.args.from.system c.args.from.at c.args.from.count) c.lines.buf c.put_last-wrote.new.buf c.lines.s c.lines.at c.lines.count c.lines.length c.lines.ended c.lines.invariant c.read_step-got.result c.in-Past.end (sym c.read_step-got.ensures) c.in_default.not-One (ap (λ (w : Wrote). written w c.put_last-wrote.new.buf) (sym c.in-Past.is) ∙ c.put_last-wrote.ensures.buf_after) in
-    record { result_after = d.0 ∙ anew_same c.args.bytes.now c.args.from pre.0; going = d.1.0; length_in_bounds = d.1.1.0; further = d.1.1.1 }
+    record { whole = d.0 ∙ anew_same c.args.bytes.now c.args.from pre.0; going = d.1.0; within = d.1.1.0; further = d.1.1.1 }
 
 pub returns-then-not-fits : goal.returns-then-not-fits
 returns-then-not-fits c =
     let pre = c.requires in
     let tight = leb-false (c.lines.length + 192) (length c.lines.buf) (sym c.fits.ensures ∙ c.if-not-fits.true) in
     let d = crowded c.args.bytes.now c.args.buf.now (anew c.args.from.system c.args.from.at c.args.from.count) c.lines.buf c.lines.buf c.lines.s c.lines.at c.lines.count c.lines.length c.lines.ended c.lines.invariant tight pre.2 in
-    record { result_after = d.0 ∙ anew_same c.args.bytes.now c.args.from pre.0; going = d.1.0; length_in_bounds = d.1.1.0; further = d.1.1.1 }
+    record { whole = d.0 ∙ anew_same c.args.bytes.now c.args.from pre.0; going = d.1.0; within = d.1.1.0; further = d.1.1.1 }
 
 pub returns-in_default-wrote-2 : goal.returns-in_default-wrote-2
 returns-in_default-wrote-2 c =

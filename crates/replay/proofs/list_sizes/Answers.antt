@@ -15,16 +15,16 @@ pub returns-in-Sized : goal.returns-in-Sized
 returns-in-Sized c =
     let e = sym c.read_sizes-got.ensures ∙ c.in-Sized.is in
     record {
-      result_after = sized-all c.args.bytes.now c.begin.new.buf c.begin.result c.in-Sized.z c.in-Sized.past e c.begin.ensures.value c.begin.ensures.first;
+      whole = sized-all c.args.bytes.now c.begin.new.buf c.begin.result c.in-Sized.z c.in-Sized.past e c.begin.ensures.value c.begin.ensures.first;
       going = begun_goes c.args.bytes.now c.begin.result c.in-Sized.z c.in-Sized.past e c.begin.ensures.value;
-      length_in_bounds = omega (arith, c.begin.ensures.first.within, c.begin.auto.buf);
+      within = omega (arith, c.begin.ensures.first.within, c.begin.auto.buf);
     }
 
 pub returns-in-NoSizes : goal.returns-in-NoSizes
 returns-in-NoSizes c =
     let e = sym c.read_sizes-got.ensures ∙ c.in-NoSizes.is in
     record {
-      result_after = refused_all c.args.bytes.now c.refuse.new.buf c.refuse.result c.in-NoSizes.why e c.refuse.ensures.value c.refuse.ensures.first;
+      whole = refused_all c.args.bytes.now c.refuse.new.buf c.refuse.result c.in-NoSizes.why e c.refuse.ensures.value c.refuse.ensures.first;
       going = refused_goes c.refuse.result c.refuse.ensures.value;
-      length_in_bounds = omega (arith, c.refuse.ensures.first.within, c.refuse.auto.buf);
+      within = omega (arith, c.refuse.ensures.first.within, c.refuse.auto.buf);
     }

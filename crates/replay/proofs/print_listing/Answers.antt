@@ -16,7 +16,7 @@ pub parts-init : goal.parts-init
 parts-init g c =
     let e = c.list_sizes-listed.ensures in (
       [],
-      first_part c.args.bytes.now c.list_sizes-listed.new.buf c.list_sizes-listed.result e.result_after e.going (search rules) (search rules),
+      first_part c.args.bytes.now c.list_sizes-listed.new.buf c.list_sizes-listed.result e.whole e.going (search rules) (search rules),
       Appends-nil _,
       search rules,
     )
@@ -27,7 +27,7 @@ parts-preserved g c =
     let e = c.list_on-listed.ensures in
     let put = subst (Appends _ _) (from_start c.parts.listed.length c.parts.buf) c.in_ok-write_full.ensures.ok in (
       out ++ take c.parts.listed.length c.parts.buf,
-      next_part c.args.bytes.now c.parts.buf c.list_on-listed.new.buf out c.parts.listed c.list_on-listed.result part e.result_after e.going e.length_in_bounds
+      next_part c.args.bytes.now c.parts.buf c.list_on-listed.new.buf out c.parts.listed c.list_on-listed.result part e.whole e.going e.within
           c.list_on-listed.auto.buf,
       Appends-trans _ _ _ _ _ written put,
       c.list_on-listed.auto.buf ∙ same,

@@ -18,8 +18,8 @@ no_fault (NoStep why) s other = absurd (other why refl)
 pub returns-in_default : goal.returns-in_default
 returns-in_default c =
     rw (no_fault c.args.got c.args.s c.in_default.not-NoStep, ← c.outstanding_left-outstanding.ensures, ← c.messages_left-messages.ensures)
-    (record { buf_after = c.put_left.ensures.buf_after; s_len_bound = c.put_left.ensures.short })
+    (record { buf_after = c.put_left.ensures.buf_after; short = c.put_left.ensures.short })
 
 pub returns : goal.returns
 unfolding last_line
-returns c = rw c.in-NoStep.is (record { buf_after = c.put_record.ensures.buf_after; s_len_bound = c.put_record.ensures.short })
+returns c = rw c.in-NoStep.is (record { buf_after = c.put_record.ensures.buf_after; short = c.put_record.ensures.short })

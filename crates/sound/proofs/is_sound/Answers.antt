@@ -30,7 +30,7 @@ unfolding sound
 returns-then-not-parts c = rw (sym (made c.args.s _ _ _ _ _ _ _ c.fit.ensures c.memory_fits.ensures c.sites_fit.ensures c.far_fits.ensures c.far_fits-2.ensures c.far_fits-3.ensures c.far_fits-4.ensures) ∙ c.if-not-parts.true)
 
 pub sites_named-near-requires : goal.sites_named-near-requires
-sites_named-near-requires c = let h = fitted c.args.s (sym (made c.args.s _ _ _ _ _ _ _ c.fit.ensures c.memory_fits.ensures c.sites_fit.ensures c.far_fits.ensures c.far_fits-2.ensures c.far_fits-3.ensures c.far_fits-4.ensures) ∙ c.if-not-parts.false) in record { by_index = λ i l. (counts _ h i l).out; by_index_2 = λ i l. (counts _ h i l).inc }
+sites_named-near-requires c = let h = fitted c.args.s (sym (made c.args.s _ _ _ _ _ _ _ c.fit.ensures c.memory_fits.ensures c.sites_fit.ensures c.far_fits.ensures c.far_fits-2.ensures c.far_fits-3.ensures c.far_fits-4.ensures) ∙ c.if-not-parts.false) in record { few_outgoing = λ i l. (counts _ h i l).out; few_incoming = λ i l. (counts _ h i l).inc }
 
 pub far_named-with_up-requires : goal.far_named-with_up-requires
 far_named-with_up-requires c = let h = fitted c.args.s (sym (made c.args.s _ _ _ _ _ _ _ c.fit.ensures c.memory_fits.ensures c.sites_fit.ensures c.far_fits.ensures c.far_fits-2.ensures c.far_fits-3.ensures c.far_fits-4.ensures) ∙ c.if-not-parts.false) in net_most _ h request _ h.up
@@ -45,7 +45,7 @@ pub far_named-all-requires : goal.far_named-all-requires
 far_named-all-requires c = let h = fitted c.args.s (sym (made c.args.s _ _ _ _ _ _ _ c.fit.ensures c.memory_fits.ensures c.sites_fit.ensures c.far_fits.ensures c.far_fits-2.ensures c.far_fits-3.ensures c.far_fits-4.ensures) ∙ c.if-not-parts.false) in net_most _ h reply _ h.down
 
 pub all_named-ok-requires : goal.all_named-ok-requires
-all_named-ok-requires c = let h = fitted c.args.s (sym (made c.args.s _ _ _ _ _ _ _ c.fit.ensures c.memory_fits.ensures c.sites_fit.ensures c.far_fits.ensures c.far_fits-2.ensures c.far_fits-3.ensures c.far_fits-4.ensures) ∙ c.if-not-parts.false) in record { sites_bound = (the_limits _ h).sites_most; by_index = λ i l. (counts _ h i l).pends }
+all_named-ok-requires c = let h = fitted c.args.s (sym (made c.args.s _ _ _ _ _ _ _ c.fit.ensures c.memory_fits.ensures c.sites_fit.ensures c.far_fits.ensures c.far_fits-2.ensures c.far_fits-3.ensures c.far_fits-4.ensures) ∙ c.if-not-parts.false) in record { few_sites = (the_limits _ h).sites_most; few_entries = λ i l. (counts _ h i l).pends }
 
 pub overflow_add-messages : goal.overflow_add-messages
 overflow_add-messages c = record { fits = omega (arith, c.far_count.ensures.upper_bound, c.near_count.ensures.upper_bound) }

@@ -44,7 +44,7 @@ returns-then-rest c =
       site,
       kind,
       le-leb _ 7 c.if-kind-gt7.false,
-      ← c.issue_limits-limits.ensures.result_value,
+      ← c.issue_limits-limits.ensures.value,
       ← c.read_row-rest.ensures,
       c.if-rest.true,
       read_issue,
@@ -56,12 +56,12 @@ returns c =
     let site = sym c.read_number-first.ensures ∙ c.in-Number.is in
     let kind = sym c.read_number-second.ensures ∙ c.in-Number-second.is in
     let len : length c.issue_limits-limits.result.numbers ≡ 6 = search rules in
-    let n = sym (length-take-le c.issue_limits-limits.result.count c.issue_limits-limits.result.numbers (omega arith)) ∙ ap length c.issue_limits-limits.ensures.result_value in
+    let n = sym (length-take-le c.issue_limits-limits.result.count c.issue_limits-limits.result.numbers (omega arith)) ∙ ap length c.issue_limits-limits.ensures.value in
     rw (
       site,
       kind,
       le-leb _ 7 c.if-kind-gt7.false,
-      ← c.issue_limits-limits.ensures.result_value,
+      ← c.issue_limits-limits.ensures.value,
       ← c.read_row-rest.ensures,
       c.if-rest.false,
       issue_read _ _ c.issue_limits-limits.result.count c.read_row-rest.result.numbers c.read_row-rest.result.place n,

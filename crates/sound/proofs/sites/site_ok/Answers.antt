@@ -23,7 +23,7 @@ lines_differ-requires c =
 
 pub tags_differ-requires : goal.tags_differ-requires
 tags_differ-requires c =
-    record { count_bound = pends-most c.args.z c.args.pends.count c.args.pends.entries (rw c.pends_fit.ensures at (second_fits c.cache_fits.result c.pends_fit.result c.stalls_fit.result c.near_fits.result c.near_fits-2.result (ap not c.if-not-each.false))); count_bound_2 = stalls-most c.args.z c.args.stalls.count c.args.stalls.waiting (rw c.stalls_fit.ensures at (third_fits c.cache_fits.result c.pends_fit.result c.stalls_fit.result c.near_fits.result c.near_fits-2.result (ap not c.if-not-each.false))) }
+    record { few_entries = pends-most c.args.z c.args.pends.count c.args.pends.entries (rw c.pends_fit.ensures at (second_fits c.cache_fits.result c.pends_fit.result c.stalls_fit.result c.near_fits.result c.near_fits-2.result (ap not c.if-not-each.false))); few_waiting = stalls-most c.args.z c.args.stalls.count c.args.stalls.waiting (rw c.stalls_fit.ensures at (third_fits c.cache_fits.result c.pends_fit.result c.stalls_fit.result c.near_fits.result c.near_fits-2.result (ap not c.if-not-each.false))) }
 
 pub returns : goal.returns
 returns c =

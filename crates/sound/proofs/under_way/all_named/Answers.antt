@@ -10,7 +10,7 @@ unfolding all_below
 loop-i-init c = search rules
 
 pub entries_named-here-requires : goal.entries_named-here-requires
-entries_named-here-requires c = c.requires.by_index c.loop-i.i (omega arith)
+entries_named-here-requires c = c.requires.few_entries c.loop-i.i (omega arith)
 
 pub loop-i-preserved : goal.loop-i-preserved
 loop-i-preserved c =

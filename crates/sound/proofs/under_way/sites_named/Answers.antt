@@ -12,10 +12,10 @@ unfolding tallied all_of
 loop-i-init c = search rules
 
 pub near_named-next-requires : goal.near_named-next-requires
-near_named-next-requires c = c.requires.by_index c.loop-i.i (omega arith)
+near_named-next-requires c = c.requires.few_outgoing c.loop-i.i (omega arith)
 
 pub near_named-next-requires-in-loop-i : goal.near_named-next-requires-in-loop-i
-near_named-next-requires-in-loop-i c = c.requires.by_index_2 c.loop-i.i (omega arith)
+near_named-next-requires-in-loop-i c = c.requires.few_incoming c.loop-i.i (omega arith)
 
 pub loop-i-preserved : goal.loop-i-preserved
 unfolding all_of
