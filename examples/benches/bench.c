@@ -75,14 +75,12 @@ static void print_wrote(mwb_wrote wrote) {
     printf("write %" PRIu32 " next %zu\n", wrote.number, wrote.next);
 }
 
-/* Writes a record of the sizes and one step, and reads it back. A second step has no room, not in a record that is written whole either. */
+/* Writes a record of the sizes and one step, and reads it back. A second step has no room. */
 static void write_and_read(mwb_system *s) {
     uint8_t buf[11];
-    mwb_row rows[] = {{.step = MWB_ISSUE, .instruction = MWB_LOADL, .tag = 7, .first = 3}, {.step = MWB_SERVE}};
     print_wrote(mwb_write_sizes(buf, sizeof buf, 2, 2, 4, 1, 1, 1));
     print_wrote(mwb_write_step(buf, sizeof buf, 6, MWB_ISSUE, 0, MWB_LOADL, 7, 3, 0));
     print_wrote(mwb_write_step(buf, sizeof buf, 11, MWB_SERVE, 0, 0, 0, 0, 0));
-    for (size_t count = 1; count <= 2; count++) print_wrote(mwb_write_rows(buf, sizeof buf, 2, 2, 4, 1, 1, 1, rows, count));
     mwb_sizes_read z = mwb_read_sizes(buf, sizeof buf);
     printf("sites %" PRIu32 " words %" PRIu32 " lines %" PRIu32 " sets %" PRIu32 " pend %" PRIu32 " stall %" PRIu32 "\n", z.sites, z.words,
            z.lines, z.sets, z.pend, z.stall);

@@ -1,6 +1,6 @@
 //! An example bench in Rust. It prints a line for each event; the whole text is the file examples/benches/expected.
 
-use mwb::{read_sizes, read_step, write_record, write_sizes, write_step, Answer, Instruction, Refusal, Sizes, Step, System, MOST_DRAIN};
+use mwb::{read_sizes, read_step, write_sizes, write_step, Answer, Instruction, Refusal, Sizes, Step, System, MOST_DRAIN};
 
 /// The number, and the processor's answer if there is one.
 fn given(given: Result<Option<Answer>, Refusal>) -> String {
@@ -79,16 +79,12 @@ fn print_wrote(wrote: Result<usize, Refusal>) {
     }
 }
 
-/// Writes a record of the sizes and one step, and reads it back. A second step has no room, not in a record that is written whole either.
+/// Writes a record of the sizes and one step, and reads it back. A second step has no room.
 fn write_and_read(sizes: Sizes) -> Result<System, Refusal> {
     let mut buf = [0; 11];
-    let steps = [Step::Issue { site: 0, tag: 7, instruction: Instruction::Loadl { address: 3 } }, Step::Serve];
     print_wrote(write_sizes(&mut buf, sizes));
-    print_wrote(write_step(&mut buf, 6, steps[0]));
-    print_wrote(write_step(&mut buf, 11, steps[1]));
-    for count in 1..=2 {
-        print_wrote(write_record(&mut buf, sizes, &steps[..count]));
-    }
+    print_wrote(write_step(&mut buf, 6, Step::Issue { site: 0, tag: 7, instruction: Instruction::Loadl { address: 3 } }));
+    print_wrote(write_step(&mut buf, 11, Step::Serve));
     let (sizes, next) = read_sizes(&buf)?;
     let Sizes { sites, words, lines, sets, pend, stall } = sizes;
     println!("sites {sites} words {words} lines {lines} sets {sets} pend {pend} stall {stall}");

@@ -65,12 +65,11 @@ fn read_back(system: &mut System, bytes: &[u8], mut at: usize) -> Result<(), Ref
     Ok(())
 }
 
-/// The sizes and two steps, written one after the other into a buffer that has room for the first step only. Then the whole record of one step and that
-/// of both, into the same buffer.
+/// The sizes and two steps, written one after the other into a buffer that has room for the first step only.
 fn write_and_read() -> Result<(), Refusal> {
     let steps = [Step::Issue { site: 0, tag: 7, instruction: Loadl(3) }, Step::Serve];
     let room = 11;
-    for count in [0, 1, 2, 1, 2] {
+    for count in 0..=steps.len() {
         match record(SIZES, &steps[..count]).len() {
             next if next <= room => println!("write 0 next {next}"),
             _ => println!("write {} next 0", Number::BufferShort.number()),
