@@ -1,5 +1,6 @@
 use mathlib.Core.Path.{ap, sym, ◌∙◌}
 use Prim.Native.Nat.{ℕ}
+use native.Mathlib.Omega.{arith}
 use lib.ListN.{length}
 use borrow.Author.Tests.{eq-eqb, ne_eqb, le-leb, lt-leb}
 use Rattle.numbers.proofs.Found.{fault-place}
@@ -15,7 +16,7 @@ returns-then-size-gt-MOST_BYTES c = rw (lt-leb (length c.args.bytes.now) most_by
 
 pub returns-then-at-size : goal.returns-then-at-size
 unfolding read_step_of
-returns-then-at-size c = rw (le-leb (length c.args.bytes.now) most_bytes c.if-size-gt-MOST_BYTES.false, eq-eqb _ _ c.if-at-size.true)
+returns-then-at-size c = rw (le-leb (length c.args.bytes.now) most_bytes c.if-size-gt-MOST_BYTES.false, eq-eqb c.args.at (length c.args.bytes.now) (omega arith))
 
 pub returns-in_default : goal.returns-in_default
 unfolding read_step_of step_at
