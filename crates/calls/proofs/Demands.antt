@@ -1,4 +1,5 @@
--- The proof of each statement of specs/Promises.antt: a refused call hands on what the model's operation leaves, which promises proves.
+-- The proof of each statement of specs/Promises.antt: a refused call hands on what the model's operation leaves, which
+-- promises proves.
 use mathlib.Core.Path.{◌≡◌, refl, ap, sym, subst, ◌∙◌}
 use mathlib.Core.List.{List, [], ◌∷◌}
 use Prim.Native.Nat.{ℕ, ◌*◌, min}
@@ -9,30 +10,28 @@ use Rattle.model.specs.declared.System.{System}
 use Rattle.model.specs.declared.Sizes.{Sizes}
 use Rattle.model.specs.declared.Refusal.{Refusal}
 use Rattle.model.specs.declared.Refusal.TheVariants.{NotSound, BufferShort}
-use Rattle.model.specs.declared.Wrote.{Wrote}
-use Rattle.model.specs.declared.Wrote.TheVariants.{Past, NotWritten}
 use Rattle.model.specs.Limits.{may_be_fresh, most_drain}
 use Rattle.model.specs.Fresh.{fresh_of}
 use Rattle.model.specs.Given.{answer_given, refusal_given, number_of, given}
 use Rattle.model.specs.Sound.{sound}
 use Rattle.model.specs.Drain.{drain_gives, undrained, drained, drained_with, drain_of}
 use Rattle.model.specs.Record.{Written, sizes_of, write_step}
-use Rattle.codes.specs.declared.kinds.Named.{Named}
-use Rattle.codes.specs.declared.kinds.Named.TheVariants.{Known, Unknown}
-use Rattle.codes.specs.Named.{named_by}
+use Rattle.codes.specs.Named.{Named, named_by}
 use Rattle.promises.specs.Promises.{Kept}
 use Rattle.promises.proofs.Demands.{refused_stays, write_keeps}
 use Rattle.calls.specs.declared.values.Stepped.{Stepped}
 use Rattle.calls.specs.Calls.{numbered, fresh_call, step_named, DrainBy, drain_result, drain_call, WriteBy, wrote_numbers, wrote_result, write_sizes_call, write_record_call, write_named}
 use Rattle.calls.specs.Promises.{Promised, is_refusal, StepCallKeeps, NotDrained, DrainCallKeeps, NotFresh, FreshCallZero, NotPut, WriteByKeeps, WriteSizesCallKeeps, WriteStepCallKeeps, WriteRecordCallKeeps}
 use Rattle.calls.proofs.Whole.{rows_name, whole_written, whole_as_steps, whole_keeps}
+use Rattle.std.specs.Prelude.{Ok, Err}
+use Rattle.model.specs.Results.{Wrote}
 
 -- THE LENT SYSTEM
 
 step_kept : (s : System) (x : Named) → T (is_refusal (step_named s x).given.number) → (step_named s x).system ≡ s
 unfolding step_named
-step_kept s (Known x) t = refused_stays s x t
-step_kept s (Unknown place) t = refl
+step_kept s (Ok x) t = refused_stays s x t
+step_kept s (Err why) t = refl
 
 pub step_call_keeps : StepCallKeeps
 step_call_keeps s s' r k i n t a b e u =
@@ -82,8 +81,8 @@ unfolding wrote_numbers
 write_kept at buf w k = go w.wrote refl
   where
     go : (o : Wrote) → w.wrote ≡ o → T (is_refusal (wrote_numbers o).number) → NotPut buf w.buffer (wrote_numbers o)
-    go (Past next) e t = absurd t
-    go (NotWritten r) e t = record { buffer_kept = k.refused_kept r e; no_next = refl }
+    go (Ok next) e t = absurd t
+    go (Err r) e t = record { buffer_kept = k.refused_kept r e; no_next = refl }
 
 -- the same of what a call gives by its contract
 by_contract : (buf : List ℕ) (w : WriteBy) → Writes buf w → WriteByKeeps buf w
@@ -95,8 +94,8 @@ write_sizes_call_keeps sites words lines sets pend stall buf = by_contract buf _
 
 step_put : (x : Named) (buf : List ℕ) (at : ℕ) → Writes buf (write_named x buf at)
 unfolding write_named wrote_numbers
-step_put (Known x) buf at = write_kept at buf (write_step x buf at) (write_keeps.1 x buf at)
-step_put (Unknown place) buf at = λ t. record { buffer_kept = refl; no_next = refl }
+step_put (Ok x) buf at = write_kept at buf (write_step x buf at) (write_keeps.1 x buf at)
+step_put (Err why) buf at = λ t. record { buffer_kept = refl; no_next = refl }
 
 pub write_step_call_keeps : WriteStepCallKeeps
 write_step_call_keeps k i n t a b buf at = by_contract buf _ (step_put (named_by k i n t a b) buf at)

@@ -1,3 +1,4 @@
 pub mod Whole
+pub mod Sized
 pub mod Demands
 pub mod Samples

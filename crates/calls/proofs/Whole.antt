@@ -16,16 +16,16 @@ use Rattle.model.specs.declared.Sizes.{Sizes}
 use Rattle.model.specs.Limits.{in_limits}
 use Rattle.model.specs.Issue.{kind_of}
 use Rattle.model.specs.Record.{operands, numbers_of, record_of, instruction_of, move_of}
-use Rattle.codes.specs.declared.kinds.Named.TheVariants.{Known}
 use Rattle.codes.specs.Named.{named_by}
 use Rattle.promises.specs.Promises.{Kept}
 use Rattle.promises.proofs.Writes.{written_at_lem, record_put, at_kept, refusal_kept}
 use Rattle.record.specs.Whole.{Steps, all, none_at, step_then, row_then, steps_in, write_rows, write_whole}
 use Rattle.calls.specs.Promises.{RowsName, WholeWritten, WholeAsSteps, WholeKeeps}
+use Rattle.std.specs.Prelude.{Ok}
 
 -- THE ROWS OF STEPS
 
-issue_named : (i t : ℕ) (n : Instruction) → named_by 0 i (kind_of n) t (get_or (operands n) 0 0) (get_or (operands n) 1 0) ≡ Known (Issue i t n)
+issue_named : (i t : ℕ) (n : Instruction) → named_by 0 i (kind_of n) t (get_or (operands n) 0 0) (get_or (operands n) 1 0) ≡ Ok (Issue i t n)
 unfolding named_by kind_of operands instruction_of
 issue_named i t (Loadl a) = refl
 issue_named i t (Storel a v) = refl
@@ -38,7 +38,7 @@ issue_named i t (FenceWw a b) = refl
 
 -- the row of a step names it
 step_named_lem : (x : Step) →
-    named_by (get_or (numbers_of x) 0 0) (get_or (numbers_of x) 1 0) (get_or (numbers_of x) 2 0) (get_or (numbers_of x) 3 0) (get_or (numbers_of x) 4 0) (get_or (numbers_of x) 5 0) ≡ Known x
+    named_by (get_or (numbers_of x) 0 0) (get_or (numbers_of x) 1 0) (get_or (numbers_of x) 2 0) (get_or (numbers_of x) 3 0) (get_or (numbers_of x) 4 0) (get_or (numbers_of x) 5 0) ≡ Ok x
 unfolding numbers_of named_by move_of
 step_named_lem (Issue i t n) = issue_named i t n
 step_named_lem (Retry i) = refl

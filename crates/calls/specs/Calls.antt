@@ -6,28 +6,22 @@ use Rattle.model.specs.declared.Sizes.{Sizes}
 use Rattle.model.specs.declared.After.{After}
 use Rattle.model.specs.declared.Drained.{Drained}
 use Rattle.model.specs.declared.Refusal.{Refusal}
-use Rattle.model.specs.declared.Refusal.TheVariants.{NotSound, NoRecord}
-use Rattle.model.specs.declared.ReadSizes.{ReadSizes}
-use Rattle.model.specs.declared.ReadSizes.TheVariants.{Sized, NoSizes}
-use Rattle.model.specs.declared.ReadStep.{ReadStep}
-use Rattle.model.specs.declared.ReadStep.TheVariants.{One, End, NoStep}
-use Rattle.model.specs.declared.Wrote.{Wrote}
-use Rattle.model.specs.declared.Wrote.TheVariants.{Past, NotWritten}
+use Rattle.model.specs.declared.Refusal.TheVariants.{NotSound}
 use Rattle.model.specs.Given.{number_of, place_given, given}
 use Rattle.model.specs.Fresh.{fresh_of, refused}
 use Rattle.model.specs.Sound.{sound}
 use Rattle.model.specs.Steps.{stepped}
 use Rattle.model.specs.Drain.{Drain, drain_of}
 use Rattle.model.specs.Record.{numbers_of, sizes_of, read_sizes, read_step, Written, written, write_sizes, write_step}
-use Rattle.codes.specs.declared.kinds.Named.{Named}
-use Rattle.codes.specs.declared.kinds.Named.TheVariants.{Known, Unknown}
-use Rattle.codes.specs.Named.{named_by}
+use Rattle.codes.specs.Named.{Named, named_by}
 use Rattle.record.specs.Whole.{write_whole}
 use Rattle.calls.specs.declared.DrainGiven.{DrainGiven}
 use Rattle.calls.specs.declared.SizesGiven.{SizesGiven}
 use Rattle.calls.specs.declared.StepGiven.{StepGiven}
 use Rattle.calls.specs.declared.WriteGiven.{WriteGiven}
 use Rattle.calls.specs.declared.values.Stepped.{Stepped}
+use Rattle.std.specs.Prelude.{Ok, Err, Some, None}
+use Rattle.model.specs.Results.{ReadSizes, ReadStep, Wrote}
 
 -- yes and no as numbers
 abbrev pub flag : Bool → ℕ
@@ -51,12 +45,12 @@ unfoldable pub fresh_call : ℕ → ℕ → ℕ → ℕ → ℕ → ℕ → Step
 fresh_call sites words lines sets pend stall = numbered (fresh_of (sizes_of (sites ∷ words ∷ lines ∷ sets ∷ pend ∷ stall ∷ [])))
 
 -- Numbers 10: numbers that name no step are refused with 10, the place counting the numbers; 1 comes before it (Numbers 14b).
-abbrev pub unnamed : System → ℕ → After
-unnamed s place = refused (cond (sound s) (NoRecord place) NotSound) s
+abbrev pub unnamed : System → Refusal → After
+unnamed s why = refused (cond (sound s) why NotSound) s
 
 unfoldable pub step_named : System → Named → Stepped
-step_named s (Known x) = numbered (stepped s x)
-step_named s (Unknown place) = numbered (unnamed s place)
+step_named s (Ok x) = numbered (stepped s x)
+step_named s (Err why) = numbered (unnamed s why)
 
 -- Parts 13a: the step that six numbers name
 abbrev pub step_call : System → ℕ → ℕ → ℕ → ℕ → ℕ → ℕ → Stepped
@@ -109,8 +103,8 @@ no_sizes_read r = record {
 }
 
 unfoldable pub sizes_numbers : ReadSizes → SizesGiven
-sizes_numbers (Sized z next) = sizes_read z next
-sizes_numbers (NoSizes r) = no_sizes_read r
+sizes_numbers (Ok (z, next)) = sizes_read z next
+sizes_numbers (Err r) = no_sizes_read r
 
 abbrev pub read_sizes_call : List ℕ → SizesGiven
 read_sizes_call bs = sizes_numbers (read_sizes bs)
@@ -131,9 +125,9 @@ step_read number end place next ns = record {
 }
 
 unfoldable pub step_numbers : ReadStep → StepGiven
-step_numbers (One x next) = step_read 0 0 0 next (numbers_of x)
-step_numbers End = step_read 0 1 0 0 []
-step_numbers (NoStep r) = step_read (number_of r) 0 (place_given r) 0 []
+step_numbers (Ok (Some (x, next))) = step_read 0 0 0 next (numbers_of x)
+step_numbers (Ok None) = step_read 0 1 0 0 []
+step_numbers (Err r) = step_read (number_of r) 0 (place_given r) 0 []
 
 abbrev pub read_step_call : List ℕ → ℕ → StepGiven
 read_step_call bs at = step_numbers (read_step bs at)
@@ -149,8 +143,8 @@ abbrev pub wrote_by : WriteGiven → List ℕ → WriteBy
 wrote_by g buf = record { given = g; buffer = buf }
 
 unfoldable pub wrote_numbers : Wrote → WriteGiven
-wrote_numbers (Past next) = record { number = 0; place = 0; next = next }
-wrote_numbers (NotWritten r) = record { number = number_of r; place = place_given r; next = 0 }
+wrote_numbers (Ok next) = record { number = 0; place = 0; next = next }
+wrote_numbers (Err r) = record { number = number_of r; place = place_given r; next = 0 }
 
 abbrev pub wrote_result : Written → WriteBy
 wrote_result w = wrote_by (wrote_numbers w.wrote) w.buffer
@@ -159,8 +153,8 @@ unfoldable pub write_sizes_call : ℕ → ℕ → ℕ → ℕ → ℕ → ℕ �
 write_sizes_call sites words lines sets pend stall buf = wrote_result (write_sizes (sizes_of (sites ∷ words ∷ lines ∷ sets ∷ pend ∷ stall ∷ [])) buf)
 
 unfoldable pub write_named : Named → List ℕ → ℕ → WriteBy
-write_named (Known x) buf at = wrote_result (write_step x buf at)
-write_named (Unknown place) buf at = wrote_result (written (NotWritten (NoRecord place)) buf)
+write_named (Ok x) buf at = wrote_result (write_step x buf at)
+write_named (Err why) buf at = wrote_result (written (Err why) buf)
 
 abbrev pub write_step_call : ℕ → ℕ → ℕ → ℕ → ℕ → ℕ → List ℕ → ℕ → WriteBy
 write_step_call k i n t a b buf at = write_named (named_by k i n t a b) buf at

@@ -7,18 +7,18 @@ use Rattle.model.specs.declared.Given.{Given}
 use Rattle.model.specs.declared.Sizes.{Sizes}
 use Rattle.model.specs.declared.System.{System}
 use Rattle.model.specs.declared.Step.{Step}
-use Rattle.model.specs.declared.Wrote.TheVariants.{Past}
 use Rattle.model.specs.Limits.{in_limits}
 use Rattle.model.specs.Fresh.{no_sizes, blank}
 use Rattle.model.specs.Given.{most_bytes}
 use Rattle.model.specs.Record.{numbers_of, record_of, written}
-use Rattle.codes.specs.Row.{padded}
+use Rattle.codes.specs.Padded.{padded}
 use Rattle.record.specs.Whole.{all, steps_in, write_whole}
 use Rattle.promises.specs.Reading.{write_record}
 use Rattle.promises.specs.Promises.{Kept}
 use Rattle.calls.specs.declared.DrainGiven.{DrainGiven}
 use Rattle.calls.specs.declared.WriteGiven.{WriteGiven}
 use Rattle.calls.specs.Calls.{stepped_by, fresh_call, step_call, drained_by, drain_call, WriteBy, wrote_by, write_sizes_call, write_step_call, write_record_call}
+use Rattle.std.specs.Prelude.{Ok}
 
 -- the number says that the call was refused
 abbrev pub is_refusal : ℕ → Bool
@@ -94,7 +94,7 @@ RowsName = (xs : List Step) → steps_in (rows_of xs) ≡ all xs
 abbrev pub WholeWritten : Type 0
 WholeWritten =
     (z : Sizes) (xs : List Step) (buf : List ℕ) → T (in_limits z) → length (record_of z xs) ≤ most_bytes → length (record_of z xs) ≤ length buf →
-    write_whole z (rows_of xs) buf ≡ written (Past (length (record_of z xs))) (record_of z xs ++ drop (length (record_of z xs)) buf)
+    write_whole z (rows_of xs) buf ≡ written (Ok (length (record_of z xs))) (record_of z xs ++ drop (length (record_of z xs)) buf)
 
 -- That is what the steps written one by one leave.
 abbrev pub WholeAsSteps : Type 0

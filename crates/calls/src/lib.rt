@@ -1,4 +1,4 @@
-// The calls of a bench as functions of values: numbers in, a small struct of numbers out, and the system after.
+// The calls of a bench: numbers in, a small struct of numbers out, and a lent system or buffer changed where it stands.
 #![tactic(auto)]
 
 pub mod reads;
@@ -17,7 +17,7 @@ pub struct DrainGiven {
 
 // What reading the sizes gives back, and the offset past them.
 #[repr(C)]
-#[derive(Clone, Copy)]
+#[derive(Clone, Copy, Default)]
 pub struct SizesGiven {
     pub number: u32,
     pub place: usize,
@@ -32,7 +32,7 @@ pub struct SizesGiven {
 
 // What reading a step gives back: the numbers of the step, and the offset past them. end: 1 at the record's length.
 #[repr(C)]
-#[derive(Clone, Copy)]
+#[derive(Clone, Copy, Default)]
 pub struct StepGiven {
     pub number: u32,
     pub end: u32,
@@ -48,7 +48,7 @@ pub struct StepGiven {
 
 // What writing gives back, and the offset past what was written.
 #[repr(C)]
-#[derive(Clone, Copy)]
+#[derive(Clone, Copy, Default)]
 pub struct WriteGiven {
     pub number: u32,
     pub place: usize,

@@ -1,15 +1,14 @@
 // The calls on a system, as functions of its value.
 ghost use Rattle.std.specs.Prelude.{◌≡◌};
-ghost use Rattle.model.specs.declared.Outcome.TheVariants.{Refused};
 ghost use Rattle.model.specs.Given.{given};
-ghost use Rattle.calls.specs.Calls.{flag, sound_call, stepped_by, numbered, fresh_call, step_call, drained_by, drain_call};
+ghost use Rattle.calls.specs.Calls.{sound_call, fresh_call, stepped_by, step_call, drained_by, drain_call};
 
 use crate::DrainGiven;
-use codes::kinds::{Named, step_of};
+use codes::kinds::step_of;
 use codes::refusals::given_of;
 use codes::sizes::sizes_of;
 use drain::drain;
-use model::{After, Given, Outcome, Refusal, System};
+use model::{Given, Refusal, System};
 use sound::is_sound;
 use steps::step_sound;
 
@@ -27,54 +26,36 @@ pub struct DrainedTo {
     pub system: System,
 }
 
-fn as_number(b: bool) -> u32
-    ensures { result ≡ flag b }
+pub fn sound_call(s: &System) -> u32
+    ensures { result ≡ sound_call s.now }
 {
-    if b {
-        return 1;
-    }
-    0
+    u32::from(is_sound(s))
 }
 
-pub fn sound_call(s: System) -> u32
-    ensures { result ≡ sound_call s }
+#[tactic(auto, using(crate::proofs::Sized::fresh_alike), unfolding(crate::specs::Calls::fresh_call))]
+pub fn fresh_call(sites: u32, words: u32, lines: u32, sets: u32, pend: u32, stall: u32) -> Stepped
+    ensures { result ≡ fresh_call sites words lines sets pend stall }
 {
-    as_number(is_sound(s))
-}
-
-// A system is copied last, once its outcome has become numbers: a copy that no match follows is one that the compiler saves.
-fn in_numbers(a: After) -> Stepped
-    ensures { result ≡ numbered a }
-{
-    let outcome = a.outcome;
-    let given = given_of(outcome);
-    let system = a.system;
+    let made = System::fresh(sizes_of([sites, words, lines, sets, pend, stall]));
     Stepped {
-        given: given,
-        system: system,
+        given: given_of(made.outcome),
+        system: made.system,
     }
 }
 
 fn refused(why: Refusal, s: System) -> Stepped
-    ensures { result ≡ stepped_by (given (Refused why)) s }
+    ensures { result ≡ stepped_by (given (Err why)) s }
 {
     Stepped {
-        given: given_of(Outcome::Refused(why)),
+        given: given_of(Err(why)),
         system: s,
     }
 }
 
-pub fn fresh_call(sites: u32, words: u32, lines: u32, sets: u32, pend: u32, stall: u32) -> Stepped
-    ensures { result ≡ fresh_call sites words lines sets pend stall }
-{
-    let z = sizes_of([sites, words, lines, sets, pend, stall]);
-    let a = System::fresh(z);
-    in_numbers(a)
-}
-
-// It looks at soundness itself and takes a step of a sound state, so that the system is not handed through one more function.
+// It looks at soundness itself, before what the numbers name.
+#[tactic(auto, unfolding(crate::specs::Calls::step_named, model::specs::Steps::stepped))]
 pub fn step_call(
-    s: System,
+    mut s: System,
     kind: u32,
     site: u32,
     instruction: u32,
@@ -84,34 +65,33 @@ pub fn step_call(
 ) -> Stepped
     ensures { result ≡ step_call s kind site instruction tag first second }
 {
-    let named = step_of(kind, site, instruction, tag, first, second);
-    if !is_sound(s) {
+    if !is_sound(&s) {
         return refused(Refusal::NotSound, s);
     }
-    match named {
-        Named::Known(x) => {
-            let a = step_sound(s, x);
-            in_numbers(a)
+    match step_of(kind, site, instruction, tag, first, second) {
+        Ok(x) => {
+            let outcome = step_sound(&mut s, x);
+            Stepped {
+                given: given_of(outcome),
+                system: s,
+            }
         }
-        Named::Unknown(place) => refused(Refusal::NoRecord(place), s),
+        Err(why) => refused(why, s),
     }
 }
 
+#[tactic(auto, unfolding(crate::specs::Calls::drain_call))]
 pub fn drain_call(s: System, budget: usize, buf: &mut [u8]) -> DrainedTo
     ensures { drained_by result.given result.system buf.new ≡ drain_call s budget buf.old }
 {
     let d = drain(s, budget, buf);
-    let outcome = d.outcome;
-    let g = given_of(outcome);
-    let given = DrainGiven {
-        number: g.number,
-        quiet: as_number(d.quiet),
-        count: d.count,
-        length: d.length,
-    };
-    let system = d.system;
     DrainedTo {
-        given: given,
-        system: system,
+        given: DrainGiven {
+            number: given_of(d.outcome).number,
+            quiet: u32::from(d.quiet),
+            count: d.count,
+            length: d.length,
+        },
+        system: d.system,
     }
 }

@@ -3,30 +3,33 @@ ghost use Rattle.std.specs.Prelude.{◌≡◌};
 ghost use Rattle.calls.specs.Calls.{wrote_numbers, wrote_by, write_sizes_call, write_step_call, write_record_call};
 
 use crate::WriteGiven;
-use codes::kinds::{Named, step_of};
+use codes::kinds::step_of;
 use codes::refusals::{number, place};
 use codes::sizes::sizes_of;
-use model::{Refusal, Wrote};
+use model::Wrote;
 use record::whole::write_record;
 use record::{write_sizes, write_step};
 
-fn wrote_given(w: Wrote) -> WriteGiven
-    ensures { result ≡ wrote_numbers w }
-{
-    match w {
-        Wrote::Past(next) => WriteGiven {
-            number: 0,
-            place: 0,
-            next: next,
-        },
-        Wrote::NotWritten(why) => WriteGiven {
-            number: number(why),
-            place: place(why),
-            next: 0,
-        },
+impl From<Wrote> for WriteGiven {
+    ghost from_gives = { λ wrote given. given ≡ wrote_numbers wrote };
+
+    #[tactic(auto, unfolding(crate::specs::Calls::wrote_numbers))]
+    fn from(wrote: Wrote) -> WriteGiven {
+        match wrote {
+            Ok(next) => WriteGiven {
+                next,
+                ..WriteGiven::default()
+            },
+            Err(why) => WriteGiven {
+                number: number(why),
+                place: place(why),
+                next: 0,
+            },
+        }
     }
 }
 
+#[tactic(auto, using(crate::proofs::Sized::sizes_alike), unfolding(crate::specs::Calls::write_sizes_call))]
 pub fn write_sizes_call(
     buf: &mut [u8],
     sites: u32,
@@ -38,11 +41,10 @@ pub fn write_sizes_call(
 ) -> WriteGiven
     ensures { wrote_by result buf.new ≡ write_sizes_call sites words lines sets pend stall buf.old }
 {
-    let z = sizes_of([sites, words, lines, sets, pend, stall]);
-    let w = write_sizes(buf, z);
-    wrote_given(w)
+    write_sizes(buf, sizes_of([sites, words, lines, sets, pend, stall])).into()
 }
 
+#[tactic(auto, unfolding(crate::specs::Calls::write_named))]
 pub fn write_step_call(
     buf: &mut [u8],
     at: usize,
@@ -55,16 +57,13 @@ pub fn write_step_call(
 ) -> WriteGiven
     ensures { wrote_by result buf.new ≡ write_step_call kind site instruction tag first second buf.old at }
 {
-    let named = step_of(kind, site, instruction, tag, first, second);
-    match named {
-        Named::Known(x) => {
-            let w = write_step(buf, at, x);
-            wrote_given(w)
-        }
-        Named::Unknown(which) => wrote_given(Wrote::NotWritten(Refusal::NoRecord(which))),
+    match step_of(kind, site, instruction, tag, first, second) {
+        Ok(x) => write_step(buf, at, x).into(),
+        Err(why) => WriteGiven::from(Err(why)),
     }
 }
 
+#[tactic(auto, using(crate::proofs::Sized::whole_alike), unfolding(crate::specs::Calls::write_record_call))]
 pub fn write_record_call(
     buf: &mut [u8],
     sites: u32,
@@ -78,6 +77,5 @@ pub fn write_record_call(
     ensures { wrote_by result buf.new ≡ write_record_call sites words lines sets pend stall numbers.now buf.old }
 {
     let z = sizes_of([sites, words, lines, sets, pend, stall]);
-    let w = write_record(buf, z, numbers);
-    wrote_given(w)
+    write_record(buf, z, numbers).into()
 }

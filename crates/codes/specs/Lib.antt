@@ -1,3 +1,3 @@
 pub mod Capped
 pub mod Named
-pub mod Row
+pub mod Padded

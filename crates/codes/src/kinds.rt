@@ -1,16 +1,11 @@
 // Numbers as steps and instructions.
+#![tactic(auto, unfolding(model::specs::Record::move_of, model::specs::Record::instruction_of, crate::specs::Named::named_by))]
+
 ghost use Rattle.std.specs.Prelude.{◌≡◌};
 ghost use Rattle.model.specs.Record.{instruction_of, move_of};
 ghost use Rattle.codes.specs.Named.{named_by};
 
-use model::{Instruction, Step};
-
-// The step that six numbers name; or which of them, counted from 0, names none.
-#[derive(Clone, Copy)]
-pub enum Named {
-    Known(Step),
-    Unknown(usize),
-}
+use model::{Instruction, Refusal, Step};
 
 // The step of a number from 1 to 7, with its site or position, if it has one.
 pub fn move_of(kind: u32, field: u32) -> Step
@@ -46,25 +41,30 @@ pub fn instruction_of(kind: u32, first: u32, second: u32) -> Instruction
     }
 }
 
-// The step that six numbers name, in the order of a record: its own, its site or position, and an issue's instruction number, tag and operands.
-pub fn step_of(kind: u32, site: u32, instruction: u32, tag: u32, first: u32, second: u32) -> Named
+// The step that six numbers name, in the order of a record: its own, its site or position, and an issue's instruction
+// number, tag and operands; or 10, with the place from 0 of the number that names none.
+pub fn step_of(
+    kind: u32,
+    site: u32,
+    instruction: u32,
+    tag: u32,
+    first: u32,
+    second: u32,
+) -> Result<Step, Refusal>
     ensures { result ≡ named_by kind site instruction tag first second }
 {
     if 7 < kind {
-        return Named::Unknown(0);
+        return Err(Refusal::NoRecord(0));
     }
     if 0 < kind {
-        let x = move_of(kind, site);
-        return Named::Known(x);
+        return Ok(move_of(kind, site));
     }
     if 7 < instruction {
-        return Named::Unknown(2);
+        return Err(Refusal::NoRecord(2));
     }
-    let n = instruction_of(instruction, first, second);
-    let x = Step::Issue {
-        site: site,
-        tag: tag,
-        instruction: n,
-    };
-    Named::Known(x)
+    Ok(Step::Issue {
+        site,
+        tag,
+        instruction: instruction_of(instruction, first, second),
+    })
 }

@@ -1,4 +1,6 @@
 // Refusals and outcomes as numbers.
+#![tactic(auto, unfolding(model::specs::Given::number_of, model::specs::Given::place_given, model::specs::Given::answer_given, model::specs::Given::refusal_given, model::specs::Given::given))]
+
 ghost use Rattle.std.specs.Prelude.{◌≡◌};
 ghost use Rattle.model.specs.Given.{number_of, place_given, answer_given, refusal_given, given};
 ghost use Rattle.model.specs.Steps.{is_done};
@@ -40,29 +42,19 @@ fn answer_given(a: Answer) -> Given
     ensures { result ≡ answer_given a }
 {
     match a {
-        Answer::Nothing => Given {
-            number: 0,
-            place: 0,
-            answered: 0,
-            site: 0,
-            tag: 0,
-            value: 0,
-        },
+        Answer::Nothing => Given::default(),
         Answer::Loaded { site, tag, value } => Given {
-            number: 0,
-            place: 0,
             answered: 1,
-            site: site,
-            tag: tag,
-            value: value,
+            site,
+            tag,
+            value,
+            ..Given::default()
         },
         Answer::Acknowledged { site, tag } => Given {
-            number: 0,
-            place: 0,
             answered: 2,
-            site: site,
-            tag: tag,
-            value: 0,
+            site,
+            tag,
+            ..Given::default()
         },
     }
 }
@@ -73,10 +65,7 @@ fn refusal_given(why: Refusal) -> Given
     Given {
         number: number(why),
         place: place(why),
-        answered: 0,
-        site: 0,
-        tag: 0,
-        value: 0,
+        ..Given::default()
     }
 }
 
@@ -85,8 +74,8 @@ pub fn given_of(o: Outcome) -> Given
     ensures { result ≡ given o }
 {
     match o {
-        Outcome::Done(answer) => answer_given(answer),
-        Outcome::Refused(why) => refusal_given(why),
+        Ok(answer) => answer_given(answer),
+        Err(why) => refusal_given(why),
     }
 }
 
@@ -94,8 +83,5 @@ pub fn given_of(o: Outcome) -> Given
 pub fn is_done(o: Outcome) -> bool
     ensures { result ≡ is_done o }
 {
-    let Outcome::Done(_) = o else {
-        return false;
-    };
-    true
+    o.is_ok()
 }

@@ -1,21 +1,66 @@
 // Steps as the numbers of a record.
-ghost use Rattle.std.specs.Prelude.{◌≡◌, [], ◌∷◌};
+#![tactic(auto, unfolding(model::specs::Record::numbers_of, model::specs::Record::operands, model::specs::Issue::kind_of))]
+
+ghost use Rattle.std.specs.Prelude.{◌≡◌, ◌≤◌, length};
 ghost use Rattle.model.specs.declared.Step.TheVariants.{Issue};
 ghost use Rattle.model.specs.Record.{numbers_of};
-ghost use Rattle.codes.specs.Row.{row_of};
+ghost use Rattle.codes.specs.Padded.{padded};
 
 use model::{Instruction, Step};
+use std::marker::Model;
 
-// The first so many of six numbers.
-#[derive(Clone, Copy)]
+// Six numbers at most, one behind the other.
+#[derive(Drop)]
 pub struct Row {
-    pub numbers: [u32; 6],
-    pub count: usize,
+    numbers: [u32; 6],
+    count: usize,
+}
+
+// Clauses see the list of those in use.
+impl Model for Row {
+    ghost use Rattle.std.specs.Prelude.{ℕ, List, take, ◌≤◌};
+
+    ghost Value = { List ℕ };
+
+    ghost view = { λ r. take r.count r.numbers };
+
+    ghost invariant = { λ r. r.count ≤ 6 };
+}
+
+impl Row {
+    // Of these numbers.
+    pub(crate) fn of<const N: usize>(numbers: [u32; N]) -> Row
+        requires { N ≤ 6 }
+        ensures { result ≡ numbers.entry }
+    {
+        let mut all = [0; 6];
+        all[..N].copy_from_slice(&numbers);
+        Row {
+            numbers: all,
+            count: N,
+        }
+    }
+
+    pub fn as_slice(&self) -> &[u32]
+        ensures value { result.now ≡ self.now }
+        ensures six { length self.now ≤ 6 }
+    {
+        &self.numbers[..self.count]
+    }
+
+    // Six numbers, with 0 for each that is not there.
+    pub fn padded(&self) -> [u32; 6]
+        ensures { result ≡ padded self.now }
+    {
+        let mut all = [0; 6];
+        all[..self.count].copy_from_slice(&self.numbers[..self.count]);
+        all
+    }
 }
 
 // The numbers of a step: its own, then its fields.
 pub fn numbers_of(x: Step) -> Row
-    ensures { result ≡ row_of (numbers_of x) }
+    ensures { result ≡ numbers_of x }
 {
     match x {
         Step::Issue {
@@ -23,63 +68,27 @@ pub fn numbers_of(x: Step) -> Row
             tag,
             instruction,
         } => issue_row(site, tag, instruction),
-        Step::Retry(site) => pair(1, site),
-        Step::Send(site) => pair(2, site),
-        Step::ArriveMemory(position) => pair(3, position),
-        Step::Serve => single(4),
-        Step::SendBack => single(5),
-        Step::ArriveSite(position) => pair(6, position),
-        Step::Take(site) => pair(7, site),
-    }
-}
-
-fn single(kind: u32) -> Row
-    ensures { result ≡ row_of (kind ∷ []) }
-{
-    Row {
-        numbers: [kind, 0, 0, 0, 0, 0],
-        count: 1,
-    }
-}
-
-fn pair(kind: u32, field: u32) -> Row
-    ensures { result ≡ row_of (kind ∷ field ∷ []) }
-{
-    Row {
-        numbers: [kind, field, 0, 0, 0, 0],
-        count: 2,
+        Step::Retry(site) => Row::of([1, site]),
+        Step::Send(site) => Row::of([2, site]),
+        Step::ArriveMemory(position) => Row::of([3, position]),
+        Step::Serve => Row::of([4]),
+        Step::SendBack => Row::of([5]),
+        Step::ArriveSite(position) => Row::of([6, position]),
+        Step::Take(site) => Row::of([7, site]),
     }
 }
 
 fn issue_row(site: u32, tag: u32, n: Instruction) -> Row
-    ensures { result ≡ row_of (numbers_of (Issue site tag n)) }
+    ensures { result ≡ numbers_of (Issue site tag n) }
 {
     match n {
-        Instruction::Loadl { address } => one_operand(site, 0, tag, address),
-        Instruction::Storel { address, value } => two_operands(site, 1, tag, address, value),
-        Instruction::Commit { address } => one_operand(site, 2, tag, address),
-        Instruction::Reconcile { address } => one_operand(site, 3, tag, address),
-        Instruction::FenceRr { first, second } => two_operands(site, 4, tag, first, second),
-        Instruction::FenceRw { first, second } => two_operands(site, 5, tag, first, second),
-        Instruction::FenceWr { first, second } => two_operands(site, 6, tag, first, second),
-        Instruction::FenceWw { first, second } => two_operands(site, 7, tag, first, second),
-    }
-}
-
-fn one_operand(site: u32, kind: u32, tag: u32, operand: u32) -> Row
-    ensures { result ≡ row_of (0 ∷ site ∷ kind ∷ tag ∷ operand ∷ []) }
-{
-    Row {
-        numbers: [0, site, kind, tag, operand, 0],
-        count: 5,
-    }
-}
-
-fn two_operands(site: u32, kind: u32, tag: u32, first: u32, second: u32) -> Row
-    ensures { result ≡ row_of (0 ∷ site ∷ kind ∷ tag ∷ first ∷ second ∷ []) }
-{
-    Row {
-        numbers: [0, site, kind, tag, first, second],
-        count: 6,
+        Instruction::Loadl { address } => Row::of([0, site, 0, tag, address]),
+        Instruction::Storel { address, value } => Row::of([0, site, 1, tag, address, value]),
+        Instruction::Commit { address } => Row::of([0, site, 2, tag, address]),
+        Instruction::Reconcile { address } => Row::of([0, site, 3, tag, address]),
+        Instruction::FenceRr { first, second } => Row::of([0, site, 4, tag, first, second]),
+        Instruction::FenceRw { first, second } => Row::of([0, site, 5, tag, first, second]),
+        Instruction::FenceWr { first, second } => Row::of([0, site, 6, tag, first, second]),
+        Instruction::FenceWw { first, second } => Row::of([0, site, 7, tag, first, second]),
     }
 }

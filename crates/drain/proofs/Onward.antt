@@ -1,4 +1,5 @@
--- The drain under way: what it has taken and written so far, and what is left of its budget, give what the definition gives.
+-- The drain under way: what it has taken and written so far, and what is left of its budget, give what the definition
+-- gives.
 use mathlib.Core.Path.{◌≡◌, refl, ap, sym, subst, ◌∙◌}
 use mathlib.Core.List.{List, [], ◌∷◌, ◌++◌, append-nil, append_assoc, flat_map}
 use mathlib.Core.Bool.{Bool, true, false}
@@ -13,20 +14,15 @@ use Rattle.lists.proofs.Counts.{flat_append}
 use Rattle.lists.proofs.Stores.{sets_append}
 use Rattle.numbers.specs.Groups.{Put, put_to}
 use Rattle.model.specs.Drain.{tries, accepts, quiet, Choice, chosen, next_step, further, drained, drain_gives, drain_of}
-use Rattle.model.specs.declared.Sizes.{Sizes}
 use Rattle.model.specs.declared.System.{System}
 use Rattle.model.specs.declared.After.{After}
 use Rattle.model.specs.declared.Step.{Step}
-use Rattle.model.specs.declared.Refusal.{Refusal}
-use Rattle.model.specs.declared.Wrote.{Wrote}
-use Rattle.model.specs.declared.Wrote.TheVariants.{Past, NotWritten}
 use Rattle.model.specs.declared.Answer.TheVariants.{Nothing}
-use Rattle.model.specs.declared.Outcome.TheVariants.{Done}
 use Rattle.model.specs.Given.{most_bytes}
 use Rattle.model.specs.Limits.{most_drain}
 use Rattle.model.specs.Sound.{sound}
 use Rattle.model.specs.Steps.{step_of}
-use Rattle.model.specs.Record.{step_bytes, steps_bytes, Written, written, write_step, is_past, past_of}
+use Rattle.model.specs.Record.{step_bytes, steps_bytes, Written, written, write_step, past_of}
 use Rattle.promises.proofs.Sound.{Sound}
 use Rattle.promises.proofs.Room.{the_limits}
 use Rattle.promises.proofs.Public.{step_sizes}
@@ -35,29 +31,29 @@ use Rattle.promises.proofs.Writes.{written_at_lem}
 use Rattle.promises.proofs.Drain.{try_of, Next, goes_on, rests, next, is_none, quiet_next, two_bytes, try_short, try_falls}
 use Rattle.steps.proofs.Visits.{sound_open}
 use Rattle.steps.proofs.Again.{sound_again}
-use Rattle.drain.specs.Stock.{stock_of, standing}
+use Rattle.drain.specs.Search.{standing}
 use Rattle.drain.specs.Search.{first_by}
 use Rattle.drain.proofs.Standing.{choice_of, found_next}
-use Rattle.drain.specs.declared.stock.Stock.{Stock}
-use Rattle.drain.specs.declared.search.Found.{Found}
-use Rattle.drain.specs.declared.search.Found.TheVariants.{First, None}
+use Rattle.std.specs.Prelude.{Option, Some, None, Ok}
+use Rattle.std.specs.Result.{IsOk}
+use Rattle.model.specs.Results.{Wrote}
 
 -- A STEP WRITTEN
 
 past_at : (x : Step) (buf : List ℕ) (at : ℕ) → at + length (step_bytes x) ≤ most_bytes → at + length (step_bytes x) ≤ length buf →
-    write_step x buf at ≡ written (Past (at + length (step_bytes x))) (sets buf at (step_bytes x))
+    write_step x buf at ≡ written (Ok (at + length (step_bytes x))) (sets buf at (step_bytes x))
 unfolding write_step
 past_at x buf at m l = written_at_lem (step_bytes x) buf at m l
 
 module _ (x : Step) (buf : List ℕ) (at : ℕ) (m : at + length (step_bytes x) ≤ most_bytes) (l : at + length (step_bytes x) ≤ length buf) where
   module _ {w : Wrote} {after : List ℕ} (e : written w after ≡ write_step x buf at) where
-    wrote : written w after ≡ written (Past (at + length (step_bytes x))) (sets buf at (step_bytes x))
+    wrote : written w after ≡ written (Ok (at + length (step_bytes x))) (sets buf at (step_bytes x))
     wrote = e ∙ past_at x buf at m l
 
-    pub has_room : {r : Refusal} → w ≡ NotWritten r → ⊥
-    has_room q = subst (λ (a : Wrote). T (is_past a)) (ap (λ (a : Written). a.wrote) (sym wrote) ∙ q) tt
+    pub is_written : IsOk w
+    is_written = rw (ap (λ (a : Written). a.wrote) wrote) refl
 
-    pub put_past : {past : ℕ} → w ≡ Past past → put_to past after ≡ put_to (at + length (step_bytes x)) (sets buf at (step_bytes x))
+    pub put_past : {past : ℕ} → w ≡ Ok past → put_to past after ≡ put_to (at + length (step_bytes x)) (sets buf at (step_bytes x))
     put_past {past} q =
         let p : past ≡ at + length (step_bytes x) = ap past_of (sym q ∙ ap (λ (a : Written). a.wrote) wrote) in
         rw (p, ap (λ (a : Written). a.buffer) wrote)
@@ -68,7 +64,8 @@ one_more-bytes xs x = flat_append step_bytes xs (x ∷ []) ∙ ap (λ (l : List 
 
 -- THE DRAIN UNDER WAY
 
--- some steps have been taken from s, and t is reached: what a drain of the rest of the budget gives from t completes what it gives from s
+-- some steps have been taken from s, and t is reached: what a drain of the rest of the budget gives from t completes
+-- what it gives from s
 pub record Onward (s : System) (budget : ℕ) (lent : List ℕ) (t : System) (count at : ℕ) (buf : List ℕ) : Type 0 where
   pub begun : sound s ≡ true
   pub room : 2 * min budget most_drain ≤ length lent
@@ -111,18 +108,18 @@ module _ {s : System} {budget : ℕ} {lent : List ℕ} {t : System} {count at : 
   -- WHERE NO STEP IS LEFT, OR NONE OF THE BUDGET
 
   ended : drained budget s ≡ record { steps = r.steps; state = t } → {q : Bool} → quiet t ≡ q →
-      drain_gives (record { outcome = Done Nothing; count = count; quiet = q; length = at; system = t }) buf ≡ drain_of s budget lent
+      drain_gives (record { outcome = Ok Nothing; count = count; quiet = q; length = at; system = t }) buf ≡ drain_of s budget lent
   unfolding drain_of
   ended e p = rw (r.begun, le-leb (2 * min budget most_drain) (length lent) r.room, e, r.counted, r.length_at, r.bytes, p)
 
-  module _ {k : Stock} {found : Found} (d : k ≡ stock_of t) (f : found ≡ first_by (standing k) (tries s.sizes.sites)) where
-    next_is : (c : Found) → found ≡ c → next_step t ≡ choice_of t c
+  module _ {found : Option Step} (f : found ≡ first_by (standing t) (tries t.sizes.sites)) where
+    next_is : (c : Option Step) → found ≡ c → next_step t ≡ choice_of t c
     next_is c g =
-        found_next t safe d (f ∙ ap (λ (z : Sizes). first_by (standing k) (tries z.sites)) (sym r.sizes)) ∙ ap (choice_of t) g
+        found_next t safe f ∙ ap (choice_of t) g
 
     -- nothing can be taken
     pub rested : found ≡ None →
-        drain_gives (record { outcome = Done Nothing; count = count; quiet = true; length = at; system = t }) buf ≡ drain_of s budget lent
+        drain_gives (record { outcome = Ok Nothing; count = count; quiet = true; length = at; system = t }) buf ≡ drain_of s budget lent
     unfolding drained
     rested g = ended (r.so_far ∙ rw (none_more (budget - count), append-nil)) (quiet_next t safe ∙ ap is_none (next_is None g))
       where
@@ -130,23 +127,23 @@ module _ {s : System} {budget : ℕ} {lent : List ℕ} {t : System} {count at : 
         none_more zero = refl
         none_more (suc m) = rw (next_is None g, drained)
 
-    module _ {x : Step} (g : found ≡ First x) where
+    module _ {x : Step} (g : found ≡ Some x) where
       abbrev after : System
       after = (step_of t x).system
 
       -- a step could be taken, but the budget is reached
       pub spent : count ≡ budget →
-          drain_gives (record { outcome = Done Nothing; count = count; quiet = false; length = at; system = t }) buf ≡ drain_of s budget lent
+          drain_gives (record { outcome = Ok Nothing; count = count; quiet = false; length = at; system = t }) buf ≡ drain_of s budget lent
       unfolding drained
       spent q =
           let z : budget - count ≡ 0 = omega arith in
-          ended (r.so_far ∙ rw (z, append-nil)) (quiet_next t safe ∙ ap is_none (next_is (First x) g))
+          ended (r.so_far ∙ rw (z, append-nil)) (quiet_next t safe ∙ ap is_none (next_is (Some x) g))
 
       -- ONE STEP MORE
 
       -- it is one of the tries, and accepted
       taken : T (try_of t x) × T (accepts t x)
-      taken = go (next_step t) (next t safe) (next_is (First x) g)
+      taken = go (next_step t) (next t safe) (next_is (Some x) g)
         where
           go : (c : Choice) → Next t c → c ≡ chosen x after → T (try_of t x) × T (accepts t x)
           go c (goes_on y m a) q = let p : y ≡ x = cc in (rw p at m, rw p at a)
@@ -162,15 +159,15 @@ module _ {s : System} {budget : ℕ} {lent : List ℕ} {t : System} {count at : 
       left l = omega (arith, r.within, l)
 
       -- it has room in what the drain asked for
-      pub has-place : (count ≡ budget → ⊥) → (at + length (step_bytes x) ≤ most_bytes) × (at + length (step_bytes x) ≤ length buf)
-      has-place l =
+      pub has_place : (count ≡ budget → ⊥) → (at + length (step_bytes x) ≤ most_bytes) × (at + length (step_bytes x) ≤ length buf)
+      has_place l =
           let most : at + length (step_bytes x) ≤ 2 * min budget most_drain =
           omega (arith, left l, lower, in_two, r.falls, r.short, potential_most s (sound_open s r.begun)) in
           (omega (arith, most), omega (arith, most, r.room, length_kept))
 
       turned : (m : ℕ) → drained (suc m) t ≡ further x (drained m after)
       unfolding drained
-      turned m = rw (next_is (First x) g, drained)
+      turned m = rw (next_is (Some x) g, drained)
 
       on : count < budget → Onward s budget lent after (count + 1) (at + length (step_bytes x)) (sets buf at (step_bytes x))
       on l =

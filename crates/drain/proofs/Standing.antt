@@ -1,9 +1,9 @@
--- The first try where something stands is the first that is accepted. A retry alone may be refused there; but it is tried last, when no message is
--- under way, so that nothing pends and its instruction need not wait.
+-- The first try where something stands is the first that is accepted. A retry alone may be refused there; but it is
+-- tried last, when no message is under way, so that nothing pends and its instruction need not wait.
 use mathlib.Core.Path.{◌≡◌, refl, ap, sym, ◌∙◌}
 use mathlib.Core.List.{List, [], ◌∷◌, ◌++◌, Memᴰ}
 use mathlib.Core.Bool.{Bool, true, ◌&&◌}
-use Prim.Native.Nat.{ℕ, zero, suc, ◌≤◌, ◌<◌}
+use Prim.Native.Nat.{ℕ, ◌≤◌, ◌<◌}
 use native.Mathlib.Omega.{arith}
 use lib.Dec.{T, ltb, leb, ltb→lt, lt→ltb, nltb→le, le→leb}
 use lib.ListN.{get_or}
@@ -19,16 +19,12 @@ use Rattle.model.specs.Record.{numbers_of}
 use Rattle.model.specs.Drain.{accepts, kind_at, steps_of_kind, tries, Choice, chosen, none, first_of, next_step}
 use Rattle.promises.proofs.Sound.{Sound}
 use Rattle.promises.proofs.Readers.{each_kind}
-use Rattle.promises.proofs.Room.{the_limits}
 use Rattle.promises.proofs.Named.{named, named_move, tried_kind}
 use Rattle.promises.proofs.Choices.{stock, accepted_stock}
 use Rattle.promises.proofs.Quiet.{Sure, granted, none-standing, none-pending}
-use Rattle.drain.specs.declared.stock.Stock.{Stock}
-use Rattle.drain.specs.declared.search.Found.{Found}
-use Rattle.drain.specs.declared.search.Found.TheVariants.{First, None}
-use Rattle.drain.specs.Stock.{four_of, stock_of, held, standing}
-use Rattle.drain.specs.Search.{first_by}
+use Rattle.drain.specs.Search.{first_by, standing}
 use Rattle.drain.proofs.Tries.{fails, none_each, first_skip, first_stays}
+use Rattle.std.specs.Prelude.{Option, Some, None}
 
 -- TESTS THAT AGREE
 
@@ -43,51 +39,29 @@ module _ (f g : Step → Bool) where
       first_by f (xs ++ ys) ≡ first_by g (xs ++ ys)
   first_behind xs ys e h = go (first_by f xs) refl
     where
-      go : (r : Found) → first_by f xs ≡ r → first_by f (xs ++ ys) ≡ first_by g (xs ++ ys)
-      go (First x) q = first_stays f xs ys q ∙ sym (first_stays g xs ys (sym e ∙ q))
+      go : (r : Option Step) → first_by f xs ≡ r → first_by f (xs ++ ys) ≡ first_by g (xs ++ ys)
+      go (Some x) q = first_stays f xs ys q ∙ sym (first_stays g xs ys (sym e ∙ q))
       go None q =
           first_skip f xs ys (none_each f xs (rw q tt)) ∙ h (none_each f xs (rw q tt)) ∙ sym (first_skip g xs ys (none_each g xs (rw (← e, q) tt)))
 
 -- the drain's choice where that step is found
-abbrev pub choice_of : System → Found → Choice
-choice_of s (First x) = chosen x (step_of s x).system
+abbrev pub choice_of : System → Option Step → Choice
+choice_of s (Some x) = chosen x (step_of s x).system
 choice_of s None = none
 
 -- WHERE SOMETHING STANDS
-
-four_at : (f : ℕ → ℕ) (i : ℕ) → i < 4 → get_or (four_of f) i 0 ≡ f i
-four_at f zero l = refl
-four_at f (suc zero) l = refl
-four_at f (suc (suc zero)) l = refl
-four_at f (suc (suc (suc zero))) l = refl
-four_at f (suc (suc (suc (suc i)))) l = absurd (omega (arith, l))
 
 module _ (s : System) (h : Sound s) where
   abbrev n : ℕ
   n = s.sizes.sites
 
-  in_four : (i : ℕ) → T (ltb i n) → i < 4
-  in_four i t = omega (arith, ltb→lt i n t, (the_limits s h).sites_most)
-
-  held_stock : (x : Step) → T (named n 1 1 x) → held (stock_of s) x ≡ stock s x
-  unfolding named held stock
-  held_stock (Issue i t m) k = absurd k
-  held_stock (Retry i) k = four_at (λ j. (site_at s j).stalls) i (in_four i k)
-  held_stock (Send i) k = four_at (λ j. (site_at s j).outgoing.count) i (in_four i k)
-  held_stock (ArriveMemory p) k = refl
-  held_stock Serve k = refl
-  held_stock SendBack k = refl
-  held_stock (ArriveSite p) k = refl
-  held_stock (Take i) k = four_at (λ j. (site_at s j).incoming.count) i (in_four i k)
-
   abbrev stands : Step → Bool
-  stands = standing (stock_of s)
+  stands = standing s
 
   sure_stands : (x : Step) → T (named n 1 1 x) → Sure s x → stands x ≡ accepts s x
   sure_stands x k u =
-      rw (held_stock x k)
-      (same_test (ltb 0 (stock s x)) (accepts s x) (λ t. granted s h x k u (ltb→lt 0 (stock s x) t))
-      (λ a. lt→ltb 0 (stock s x) (accepted_stock s h x (named_move n 1 1 x k) a)))
+      same_test (ltb 0 (stock s x)) (accepts s x) (λ t. granted s h x k u (ltb→lt 0 (stock s x) t))
+      (λ a. lt→ltb 0 (stock s x) (accepted_stock s h x (named_move n 1 1 x k) a))
 
   -- a retry is sure of its way where nothing pends, any other step anywhere
   sure_of : (x : Step) → T (named n 1 1 x) → ((i : ℕ) → i < n → x ≡ Retry i → (site_at s i).pends ≡ 0) → Sure s x
@@ -132,7 +106,7 @@ module _ (s : System) (h : Sound s) where
 
   module _ (t : T (each (fails stands) others)) where
     passed_empty : (x : Step) → T (named n 1 1 x) → Memᴰ x others → stock s x ≡ 0
-    passed_empty x k m = omega (arith, held_stock x k, nltb→le 0 (held (stock_of s) x) (mem_each (fails stands) m t))
+    passed_empty x k m = omega (arith, nltb→le 0 (stock s x) (mem_each (fails stands) m t))
 
     nothing-pends : (i : ℕ) → i < n → (site_at s i).pends ≡ 0
     unfolding named stock steps_of_kind
@@ -172,5 +146,5 @@ module _ (s : System) (h : Sound s) where
   first_next =
       first_accepted (tries n) ∙ ap (choice_of s) (sym (first_behind stands (accepts s) others (kind 6) others_alike retries_alike))
 
-  pub found_next : {k : Stock} {found : Found} → k ≡ stock_of s → found ≡ first_by (standing k) (tries n) → next_step s ≡ choice_of s found
-  found_next {k} {found} e f = first_next ∙ ap (choice_of s) (sym (f ∙ ap (λ (j : Stock). first_by (standing j) (tries n)) e))
+  pub found_next : {found : Option Step} → found ≡ first_by stands (tries n) → next_step s ≡ choice_of s found
+  found_next f = first_next ∙ ap (choice_of s) (sym f)

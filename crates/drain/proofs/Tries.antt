@@ -1,25 +1,25 @@
 -- The search, one try at a time: what was passed over leaves the first of the rest.
 use mathlib.Core.Path.{◌≡◌, refl, ap, sym, ◌∙◌}
 use mathlib.Core.List.{List, [], ◌∷◌, ◌++◌, map, append-nil}
-use mathlib.Core.Bool.{Bool, true, false, not, ◌&&◌}
+use mathlib.Core.Bool.{Bool, true, false, not}
 use Prim.Native.Nat.{ℕ, zero, suc, ◌+◌, ◌≤◌, ◌<◌}
 use native.Mathlib.Numerals.{add-one}
 use native.Mathlib.Omega.{arith}
-use lib.Dec.{T, ltb, leb, ltb→lt, nltb→le, le→leb}
+use lib.ListN.{get_or}
+use lib.Dec.{T, eqb, eqb→eq, ltb, leb, ltb→lt, nltb→le, le→leb}
 use Rattle.lists.specs.Places.{all_below, up_from, each, all_of}
-use Rattle.lists.proofs.Tests.{and_l, and_r, both, by_test, by_cond, cond_T, cond_F}
+use Rattle.lists.proofs.Tests.{and_l, and_r, both, by_test, cond_T, cond_F}
 use Rattle.lists.proofs.Below.{below_at, below_turn}
 use Rattle.lists.proofs.Counts.{each_append, each-all_of, each-up, up-all_of}
 use Rattle.model.specs.declared.Step.{Step}
 use Rattle.model.specs.Record.{move_of}
 use Rattle.model.specs.Drain.{kind_at, steps_of_kind, tries}
 use Rattle.promises.proofs.Readers.{each_kind}
-use Rattle.drain.specs.declared.search.Found.{Found}
-use Rattle.drain.specs.declared.search.Found.TheVariants.{First, None}
 use Rattle.drain.specs.Search.{first_by, width_of}
+use Rattle.std.specs.Prelude.{Option, Some, None}
 
-abbrev is_none : Found → Bool
-is_none (First x) = false
+abbrev is_none : Option Step → Bool
+is_none (Some x) = false
 is_none None = true
 
 module _ (f : Step → Bool) where
@@ -42,19 +42,19 @@ module _ (f : Step → Bool) where
   unfolding each first_by
   none_each [] t = tt
   none_each (x ∷ xs) t =
-      by_test (f x) (λ u. absurd (rw (cond_T (f x) (First x) (first_by f xs) u) at t))
-      (λ u. both (fails x) _ u (none_each xs (rw (cond_F (f x) (First x) (first_by f xs) u) at t)))
+      by_test (f x) (λ u. absurd (rw (cond_T (f x) (Some x) (first_by f xs) u) at t))
+      (λ u. both (fails x) _ u (none_each xs (rw (cond_F (f x) (Some x) (first_by f xs) u) at t)))
 
-  pub first_stays : (xs ys : List Step) {x : Step} → first_by f xs ≡ First x → first_by f (xs ++ ys) ≡ First x
+  pub first_stays : (xs ys : List Step) {x : Step} → first_by f xs ≡ Some x → first_by f (xs ++ ys) ≡ Some x
   unfolding first_by
   first_stays [] ys e = cc
   first_stays (y ∷ xs) ys {x} e =
-      by_test (f y) (λ t. cond_T (f y) _ _ t ∙ rw (cond_T (f y) (First y) (first_by f xs) t) at e)
-      (λ t. cond_F (f y) _ _ t ∙ first_stays xs ys (rw (cond_F (f y) (First y) (first_by f xs) t) at e))
+      by_test (f y) (λ t. cond_T (f y) _ _ t ∙ rw (cond_T (f y) (Some y) (first_by f xs) t) at e)
+      (λ t. cond_F (f y) _ _ t ∙ first_stays xs ys (rw (cond_F (f y) (Some y) (first_by f xs) t) at e))
 
   -- the lists before the one at j have none
-  first_all_of : (n : ℕ) (g : ℕ → List Step) (j : ℕ) {x : Step} → j < n → T (each fails (all_of j g)) → first_by f (g j) ≡ First x →
-      first_by f (all_of n g) ≡ First x
+  first_all_of : (n : ℕ) (g : ℕ → List Step) (j : ℕ) {x : Step} → j < n → T (each fails (all_of j g)) → first_by f (g j) ≡ Some x →
+      first_by f (all_of n g) ≡ Some x
   unfolding all_of
   first_all_of zero g j l t e = absurd (omega (arith, l))
   first_all_of (suc n) g j {x} l t e =
@@ -62,7 +62,7 @@ module _ (f : Step → Bool) where
       (λ k. let j≡n : j ≡ n = omega (arith, nltb→le j n k) in
       first_skip (all_of n g) (g n) (rw j≡n at t) ∙ rw j≡n at e)
 
-  first_up : (h : ℕ → Step) (n i : ℕ) → i < n → T (all_below i (λ m. fails (h m))) → T (f (h i)) → first_by f (map h (up_from 0 n)) ≡ First (h i)
+  first_up : (h : ℕ → Step) (n i : ℕ) → i < n → T (all_below i (λ m. fails (h m))) → T (f (h i)) → first_by f (map h (up_from 0 n)) ≡ Some (h i)
   unfolding first_by each
   first_up h n i l t u =
       ap (first_by f) (up-all_of h n) ∙
@@ -79,6 +79,14 @@ kind_listed n k l t =
     (λ m. refl) (λ m. refl) (λ m. refl) (λ m. refl) (λ m. refl) k t l
 
 -- THE SEARCH
+
+-- the kinds in the drain's order
+abbrev pub kinds : List ℕ
+kinds = 7 ∷ 6 ∷ 5 ∷ 4 ∷ 3 ∷ 2 ∷ 1 ∷ []
+
+pub kind_in : (turn : ℕ) → turn < 7 → get_or kinds turn 0 ≡ kind_at turn
+unfolding all_below
+kind_in turn l = eqb→eq (get_or kinds turn 0) (kind_at turn) (below_at 7 (λ j. eqb (get_or kinds j 0) (kind_at j)) tt turn l)
 
 module _ (f : Step → Bool) (n : ℕ) where
   -- the tries of the first turns are passed over
@@ -113,7 +121,7 @@ module _ (f : Step → Bool) (n : ℕ) where
         (rw listed (each-up (fails f) (move_of kind) tried (λ i h. below_at site (λ m. fails f (move_of kind m)) u i (omega arith)))))
 
     pub found_here : Passed turn → {site : ℕ} → site < tried → PassedSites kind site → f (move_of kind site) ≡ true →
-        first_by f (tries n) ≡ First (move_of kind site)
+        first_by f (tries n) ≡ Some (move_of kind site)
     unfolding tries
     found_here t {site} m u e =
         first_all_of f 7 (λ j. steps_of_kind n (kind_at j)) turn l t (ap (first_by f) listed ∙ first_up f (move_of kind) tried site m u (rw e tt))
@@ -122,6 +130,5 @@ module _ (f : Step → Bool) (n : ℕ) where
   unfolding tries
   none_found turn e t = first_none f (tries n) (rw e at t)
 
--- a kind is tried at four sites at most
-pub width_most : (n k : ℕ) → n ≤ 4 → width_of n k ≤ 4
-width_most n k m = by_cond (λ (w : ℕ). w ≤ 4) (leb 3 k && leb k 6) 1 n (λ t. omega arith) (λ t. m)
+-- what is passed over, turn by turn and site by site
+pub ruleset turns = (no_turns, no_sites, next_site, next_turn, none_found, kind_in)

@@ -1,2 +1,1 @@
-pub mod Stock
 pub mod Search

@@ -1,84 +1,60 @@
 // What is left in a system (Replay 2c): instructions that have no answer yet, and messages under way.
 #![tactic(auto)]
 
-ghost use Rattle.std.specs.Prelude.{◌≡◌, not, ◌+◌, ◌≤◌, min, eqb, length, take};
+ghost use Rattle.std.specs.Prelude.{◌≡◌, not, ◌+◌, ◌≤◌, eqb, length, take};
 ghost use Rattle.lists.specs.Places.{tally};
 ghost use Rattle.model.specs.declared.Entry.{Entry};
 ghost use Rattle.model.specs.Kinds.{voluntary};
 ghost use Rattle.model.specs.Left.{outstanding_left, messages_left};
 
-use model::{Pends, Queue, SiteQueue, System};
+use model::{Message, Pends, System};
 
-// How many of the places of an array are in use: no more than there are, whatever the count says.
-fn within(count: u8, places: u8) -> u8
-    ensures { result ≡ min count places }
-{
-    if count < places {
-        return count;
-    }
-    places
-}
+// The kind of a pend entry that no instruction asked for.
+const VOLUNTARY: u8 = 4;
 
 // The pend entries that are not voluntary.
-fn not_voluntary(p: Pends) -> u64
-    ensures value { result ≡ tally (λ (e : Entry). not (eqb e.kind voluntary)) p.count p.entries }
+fn not_voluntary(p: &Pends) -> u64
+    ensures value { result ≡ tally (λ (e : Entry). not (eqb e.kind voluntary)) p.now.count p.now.entries }
     ensures upper_bound { result ≤ 5 }
 {
-    let count = within(p.count, 5) as usize;
-    let mut n: u64 = 0;
-    let mut i: usize = 0;
-    while i < count {
-        let e = p.entries[i];
-        if e.kind != 4 {
-            n += 1;
-        }
-        i += 1;
-    }
-    n
+    p.entries
+        .iter()
+        .take(usize::from(p.count))
+        .filter(|e| e.kind != VOLUNTARY)
+        .count() as u64
 }
 
 // Parts 11: at a site these are the stalled instructions and the pend entries that an instruction asked for.
-pub fn outstanding_left(s: System) -> u64
-    ensures { result ≡ outstanding_left s }
+pub fn outstanding_left(s: &System) -> u64
+    ensures { result ≡ outstanding_left s.now }
 {
-    let sites = within(s.sizes.sites, 4) as usize;
-    let mut n: u64 = 0;
-    let mut i: usize = 0;
-    while i < sites {
-        let waits = s.stalls[i];
-        let p = s.pends[i];
-        n += waits.count as u64 + not_voluntary(p);
-        i += 1;
-    }
-    n
+    s.stalls
+        .iter()
+        .zip(&s.pends)
+        .take(usize::from(s.sizes.sites))
+        .map(|(stalls, pends)| u64::from(stalls.count) + not_voluntary(pends))
+        .sum()
 }
 
-// The messages in the two queues of a site.
-fn in_site_queues(out: SiteQueue, back: SiteQueue) -> u64
-    ensures value { result ≡ length (take out.count out.items) + length (take back.count back.items) }
-    ensures upper_bound { result ≤ 10 }
+// How many of the places of a queue are in use: no more than there are, whatever the count says.
+fn in_use(items: &[Message], count: u8) -> u64
+    ensures value { result ≡ length (take count items.now) }
+    ensures upper_bound { result ≤ 255 }
 {
-    within(out.count, 5) as u64 + within(back.count, 5) as u64
-}
-
-// The messages in a network, or in a queue of memory.
-fn in_queue(q: Queue) -> u64
-    ensures value { result ≡ length (take q.count q.items) }
-    ensures upper_bound { result ≤ 20 }
-{
-    within(q.count, 20) as u64
+    items.len().min(usize::from(count)) as u64
 }
 
 // The messages in all queues and networks.
-pub fn messages_left(s: System) -> u64
-    ensures { result ≡ messages_left s }
+#[tactic(auto, using(crate::proofs::Remaining::lengths), unfolding(lists::specs::Places::all_of, model::specs::Sound::under_way))]
+pub fn messages_left(s: &System) -> u64
+    ensures { result ≡ messages_left s.now }
 {
-    in_site_queues(s.outgoing[0], s.incoming[0])
-        + in_site_queues(s.outgoing[1], s.incoming[1])
-        + in_site_queues(s.outgoing[2], s.incoming[2])
-        + in_site_queues(s.outgoing[3], s.incoming[3])
-        + in_queue(s.up)
-        + in_queue(s.arrived)
-        + in_queue(s.served)
-        + in_queue(s.down)
+    let mut n = 0;
+    for (outgoing, incoming) in s.outgoing.iter().zip(&s.incoming) {
+        n += in_use(&outgoing.items, outgoing.count) + in_use(&incoming.items, incoming.count);
+    }
+    n + in_use(&s.up.items, s.up.count)
+        + in_use(&s.arrived.items, s.arrived.count)
+        + in_use(&s.served.items, s.served.count)
+        + in_use(&s.down.items, s.down.count)
 }

@@ -1,4 +1,5 @@
-// The calls that a bench links: a lent system, stepped where it stands, and records in lent bytes. Numbers in, a small struct of numbers out.
+// The calls that a bench links: a lent system, stepped where it stands, and records in lent bytes. Numbers in, a small
+// struct of numbers out.
 #![tactic(auto)]
 
 ghost use Rattle.std.specs.Prelude.{◌≡◌};
@@ -15,7 +16,7 @@ use model::{Given, System};
 pub extern "C" fn mwb_sound(s: &System) -> u32
     ensures { result ≡ sound_call s.now }
 {
-    sound_call(*s)
+    sound_call(s)
 }
 
 // Makes the lent system a fresh one of six sizes; for sizes outside their limits it holds 0 everywhere (Numbers 18a).

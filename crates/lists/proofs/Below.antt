@@ -3,8 +3,8 @@ use mathlib.Core.Path.{◌≡◌, refl, sym, ap, ◌∙◌}
 use mathlib.Core.Logic.{⊎_elim}
 use mathlib.Core.List.{List}
 use mathlib.Core.Bool.{Bool, ◌&&◌, and-true, and_assoc}
-use Prim.Native.Nat.{ℕ, zero, suc, ◌+◌, ◌*◌, ◌≤◌, ◌<◌, min}
-use native.Mathlib.Nat.{not-suc-le-zero, le_of_suc-le-suc, eq-or-lt_of_le, mul-le-mul_right, zero-min, min-eq_left}
+use Prim.Native.Nat.{ℕ, zero, suc, ◌+◌, ◌*◌, ◌≤◌, ◌<◌}
+use native.Mathlib.Nat.{not-suc-le-zero, le_of_suc-le-suc, eq-or-lt_of_le, mul-le-mul_right}
 use native.Mathlib.Numerals.{add-one}
 use native.Mathlib.Omega.{arith}
 use native.Mathlib.Decide.{ℕ_discrete}
@@ -123,12 +123,3 @@ pub once_below : (n k : ℕ) → sum_below n (λ i. ind (eqb k i)) ≤ 1
 once_below n k =
     by_test (ltb k n) (λ l. omega (arith, one_below n k (ltb→lt k n l)))
     (λ l. omega (arith, sum_most n 0 (λ i. ind (eqb k i)) (λ i h. omega (arith, ind_F (eqb k i) (of_ne k i (λ e. omega (arith, e, h, nltb→le k n l)))))))
-
--- shares that are nothing from m on may be left out
-pub sum_past : (m n : ℕ) (g : ℕ → ℕ) → ((i : ℕ) → m ≤ i → g i ≡ 0) → sum_below (min n m) g ≡ sum_below n g
-unfolding sum_below
-sum_past m zero g h = rw zero-min
-sum_past m (suc n) g h =
-    by_test (ltb n m)
-    (λ l. let e : min (suc n) m ≡ suc n = min-eq_left (ltb→lt n m l) in rw e)
-    (λ l. let e : min (suc n) m ≡ min n m = omega (arith, nltb→le n m l) in rw e (omega (arith, sum_past m n g h, h n (nltb→le n m l))))

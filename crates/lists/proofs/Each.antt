@@ -1,11 +1,10 @@
 -- A test of each of the first places of an array: no place, one place more, more places than there are.
 use mathlib.Core.Path.{◌≡◌, refl}
 use mathlib.Core.List.{List, [], ◌∷◌}
-use mathlib.Core.Bool.{Bool, true, false, ◌&&◌, and-true, and-false, and_assoc}
-use Prim.Native.Nat.{ℕ, zero, suc, ◌+◌, ◌≤◌, ◌<◌}
+use mathlib.Core.Bool.{Bool, true, false, and-false}
+use Prim.Native.Nat.{ℕ, zero, suc, ◌≤◌, ◌<◌}
 use native.Mathlib.Nat.{le_of_suc-le-suc, not-suc-le-zero}
-use native.Mathlib.Numerals.{add-one}
-use lib.ListN.{length, get_or}
+use lib.ListN.{length}
 use Rattle.lists.specs.Places.{fits, each_of}
 
 module _ {A : Type 0} where
@@ -14,16 +13,6 @@ module _ {A : Type 0} where
   unfolding fits
   each_none f [] = refl
   each_none f (x ∷ xs) = each_none f xs
-
-  -- one place more
-  pub each_suc : (f : A → Bool) (i : ℕ) (xs : List A) (d : A) → i < length xs → each_of f (suc i) xs ≡ (each_of f i xs && f (get_or xs i d))
-  unfolding fits
-  each_suc f i [] d h = absurd (not-suc-le-zero h)
-  each_suc f zero (x ∷ xs) d h = rw (each_none f xs, and-true)
-  each_suc f (suc i) (x ∷ xs) d h = rw (each_suc f i xs d (le_of_suc-le-suc h), and_assoc)
-
-  pub each_turn : (f : A → Bool) (i : ℕ) (xs : List A) (d : A) → i < length xs → each_of f (i + 1) xs ≡ (each_of f i xs && f (get_or xs i d))
-  each_turn f i xs d h = rw add-one (each_suc f i xs d h)
 
   -- more places than there are
   pub each-past : (f : A → Bool) (n : ℕ) (xs : List A) → length xs < n → each_of f n xs ≡ false

@@ -5,7 +5,5 @@ pub mod Unlike
 pub mod Below
 pub mod Counts
 pub mod Long
-pub mod Turns
-pub mod Shift
-pub mod Seek
 pub mod Stores
+pub mod Library

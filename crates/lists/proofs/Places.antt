@@ -1,12 +1,12 @@
 -- Laws of an array with a count: what holds of its places after one is added, taken out or put anew.
 use mathlib.Core.Path.{◌≡◌, refl, ap}
 use mathlib.Core.List.{List, [], ◌∷◌, ◌++◌}
-use mathlib.Core.Bool.{Bool, true, not, ◌&&◌, and-false}
-use Prim.Native.Nat.{ℕ, zero, suc, ◌+◌, ◌-◌, ◌*◌, ◌≤◌, ◌<◌, min}
-use native.Mathlib.Nat.{not-suc-le-zero, le_of_suc-le-suc, suc-sub-suc, sub-zero, zero-min, min-zero, suc-min-suc}
+use mathlib.Core.Bool.{Bool, true, not}
+use Prim.Native.Nat.{ℕ, zero, suc, ◌+◌, ◌-◌, ◌*◌, ◌≤◌, ◌<◌}
+use native.Mathlib.Nat.{not-suc-le-zero, le_of_suc-le-suc, suc-sub-suc, sub-zero}
 use native.Mathlib.Numerals.{add-one}
 use native.Mathlib.Omega.{arith}
-use lib.Dec.{T, leb, eqb, eqb→eq, eqb_refl, leb-zero, eqb-suc-zero}
+use lib.Dec.{T, eqb, eqb→eq, eqb_refl}
 use lib.ListN.{length, get_or, set, replicate, length-set, length-replicate}
 use Rattle.lists.specs.Places.{fits, array, weigh, tally, each_of, none_of, removed, first_at}
 use Rattle.lists.proofs.Tests.{and_l, and_r, both, by_cond, ind_T, ind_F}
@@ -147,20 +147,6 @@ module _ {A : Type 0} where
       let e : weigh f n (set xs p y) + f (get_or xs p d) ≡ weigh f n xs + f y = weigh_set f n p xs y d (le_of_suc-le-suc h) (le_of_suc-le-suc k) in
       omega arith
 
-  -- one more place is weighed
-  pub weigh_turn : (f : A → ℕ) (i : ℕ) (xs : List A) (d : A) → i < length xs → weigh f (suc i) xs ≡ weigh f i xs + f (get_or xs i d)
-  unfolding weigh
-  weigh_turn f i [] d h = absurd (not-suc-le-zero h)
-  weigh_turn f zero (x ∷ xs) d h = omega arith
-  weigh_turn f (suc i) (x ∷ xs) d h = omega (arith, weigh_turn f i xs d (le_of_suc-le-suc h))
-
-  -- a count past the end weighs no more than all places
-  pub weigh-within : (f : A → ℕ) (n : ℕ) (xs : List A) → weigh f (min n (length xs)) xs ≡ weigh f n xs
-  unfolding weigh
-  weigh-within f zero xs = rw zero-min
-  weigh-within f (suc n) [] = rw min-zero
-  weigh-within f (suc n) (x ∷ xs) = rw (suc-min-suc, weigh-within f n xs)
-
   pub weigh-most : (f : A → ℕ) (c : ℕ) → ((x : A) → f x ≤ c) → (n : ℕ) (xs : List A) → weigh f n xs ≤ n * c
   unfolding weigh
   weigh-most f c h zero xs = omega arith
@@ -261,12 +247,6 @@ module _ {A : Type 0} where
   pub array_unused : (f g : A → Bool) (x : A) → T (g x) → (m : ℕ) → T (array m f g 0 (replicate m x))
   unfolding array
   array_unused f g x t m = rw (fits-none f g g (replicate m x)) (array_same g g x t t 0 m (omega arith))
-
-  pub array-none : (f' : A → Bool) (b : Bool) (places most : ℕ) (f g : A → Bool) (n : ℕ) (xs : List A) →
-      (b && eqb n 0 && (leb n most && array places f g n xs)) ≡ (b && eqb n 0 && array places f' g 0 xs)
-  unfolding array
-  array-none f' b places most f g zero xs = rw (leb-zero, fits-none f f' g xs)
-  array-none f' b places most f g (suc n) xs = rw (eqb-suc-zero, and-false)
 
   -- THE FIRST PLACE THAT PASSES
 

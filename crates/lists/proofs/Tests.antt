@@ -66,13 +66,16 @@ same_test true b f g = sym (T_true b (f tt))
 same_test false true f g = absurd (g tt)
 same_test false false f g = refl
 
+-- the middle one of three tests moved to the front
+pub and_swap : (a b c : Bool) → (a && (b && c)) ≡ (b && (a && c))
+and_swap true b c = refl
+and_swap false true c = refl
+and_swap false false c = refl
+
 -- NUMBERS
 
 pub eqb_sym : (a b : ℕ) → T (eqb a b) → T (eqb b a)
 eqb_sym a b t = let e : a ≡ b = eqb→eq a b t in rw e (eqb_refl b)
-
-pub eqb_comm : (a b : ℕ) → eqb a b ≡ eqb b a
-eqb_comm a b = same_test (eqb a b) (eqb b a) (eqb_sym a b) (eqb_sym b a)
 
 pub not_eqb_sym : (a b : ℕ) → T (not (eqb a b)) → T (not (eqb b a))
 not_eqb_sym a b t = not_T (eqb b a) (λ u. T_not (eqb a b) t (eqb_sym b a u))

@@ -1,7 +1,7 @@
 -- Laws of an array no two of whose places in use are alike.
 use mathlib.Core.Path.{◌≡◌, refl}
 use mathlib.Core.List.{List, [], ◌∷◌, ◌++◌}
-use mathlib.Core.Bool.{Bool, true, false, not, ◌&&◌}
+use mathlib.Core.Bool.{Bool, true, not}
 use Prim.Native.Nat.{ℕ, zero, suc, ◌+◌, ◌-◌, ◌≤◌, ◌<◌}
 use native.Mathlib.Nat.{not-suc-le-zero, le_of_suc-le-suc, suc-sub-suc, sub-zero}
 use native.Mathlib.Numerals.{add-one}
@@ -10,7 +10,6 @@ use lib.Dec.{T, not_T, T_not}
 use lib.ListN.{length, get_or, set}
 use Rattle.lists.specs.Places.{ind, fits, weigh, tally, none_of, removed, unlike}
 use Rattle.lists.proofs.Tests.{and_l, and_r, both, by_test, ind_T, ind_F}
-use Rattle.lists.proofs.Each.{each_none, each_suc}
 use Rattle.lists.proofs.Places.{fits_push', fits-end, fits_pull', fits_set, fits_any, fits_at, none_used, weigh-none}
 
 module _ {A : Type 0} where
@@ -133,28 +132,4 @@ module _ {A : Type 0} where
             (λ y v. ind_F (g y) (not_T (g y) (λ w. T_not (same x y) v (f x y u w)))) n xs (and_l (none_of (same x) n xs) _ t),
       ))
       (λ u. omega (arith, ind_F (g x) u, unlike-most same g f n xs (and_r (none_of (same x) n xs) _ t)))
-
   -- ONE PLACE MORE
-
-  unlike_suc : (same : A → A → Bool) (i : ℕ) (xs : List A) (d : A) → i < length xs →
-      unlike same (suc i) xs ≡ (unlike same i xs && none_of (λ (x : A). same x (get_or xs i d)) i xs)
-  unfolding unlike fits
-  unlike_suc same i [] d h = absurd (not-suc-le-zero h)
-  unlike_suc same zero (x ∷ xs) d h = rw (each_none (λ (y : A). not (same x y)) xs)
-  unlike_suc same (suc i) (x ∷ xs) d h =
-      rw (
-        each_suc (λ (y : A). not (same x y)) i xs d (le_of_suc-le-suc h),
-        unlike_suc same i xs d (le_of_suc-le-suc h),
-      )
-      (swap (none_of (same x) i xs) (not (same x (get_or xs i d))) (unlike same i xs) (none_of (λ (y : A). same y (get_or xs i d)) i xs))
-    where
-      swap : (a b c e : Bool) → (a && b && (c && e)) ≡ (a && c && (b && e))
-      swap true true c e = refl
-      swap true false true e = refl
-      swap true false false e = refl
-      swap false b c e = refl
-
-  -- the place behind the first i differs from each of them
-  pub unlike_turn : (same : A → A → Bool) (i : ℕ) (xs : List A) (d : A) → i < length xs →
-      unlike same (i + 1) xs ≡ (unlike same i xs && none_of (λ (x : A). same x (get_or xs i d)) i xs)
-  unlike_turn same i xs d h = rw add-one (unlike_suc same i xs d h)

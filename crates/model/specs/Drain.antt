@@ -10,11 +10,11 @@ use Rattle.model.specs.declared.Step.TheVariants.{Retry, Send, ArriveMemory, Ser
 use Rattle.model.specs.declared.Answer.TheVariants.{Nothing}
 use Rattle.model.specs.declared.Refusal.{Refusal}
 use Rattle.model.specs.declared.Refusal.TheVariants.{NotSound, BufferShort}
-use Rattle.model.specs.declared.Outcome.TheVariants.{Done, Refused}
 use Rattle.model.specs.Limits.{most_drain}
 use Rattle.model.specs.Sound.{sound}
 use Rattle.model.specs.Steps.{step_of, is_done}
 use Rattle.model.specs.Record.{steps_bytes}
+use Rattle.std.specs.Prelude.{Ok, Err}
 
 -- QUIET
 
@@ -103,12 +103,12 @@ drain_gives r buf = record { result = r; buffer = buf }
 
 -- Numbers 17: a refused drain took nothing, wrote nothing, answers nothing and leaves the system
 abbrev pub undrained : Refusal → System → Drained
-undrained r s = record { outcome = Refused r; count = 0; quiet = false; length = 0; system = s }
+undrained r s = record { outcome = Err r; count = 0; quiet = false; length = 0; system = s }
 
 -- Drain 3, 6: the bytes of the steps stand at the front of the buffer, their number is given, and the bytes behind them are as before
 abbrev pub drained_into : Taken → List ℕ → List ℕ → Drain
 drained_into d bytes buf =
-    drain_gives (record { outcome = Done Nothing; count = length d.steps; quiet = quiet d.state; length = length bytes; system = d.state })
+    drain_gives (record { outcome = Ok Nothing; count = length d.steps; quiet = quiet d.state; length = length bytes; system = d.state })
     (sets buf 0 bytes)
 
 -- Drain 3c: the same, from the steps

@@ -15,8 +15,8 @@ use Rattle.model.specs.declared.Answer.{Answer}
 use Rattle.model.specs.declared.Answer.TheVariants.{Nothing}
 use Rattle.model.specs.declared.Refusal.{Refusal}
 use Rattle.model.specs.declared.Refusal.TheVariants.{SizeOutside}
-use Rattle.model.specs.declared.Outcome.TheVariants.{Done, Refused}
 use Rattle.model.specs.Limits.{may_be_fresh}
+use Rattle.std.specs.Prelude.{Ok, Err}
 
 -- Parts 7, 9i: words of 0
 abbrev pub no_values : List ℕ
@@ -80,11 +80,11 @@ no_sizes = record { sites = 0; words = 0; lines = 0; sets = 0; pend = 0; stall =
 
 -- Numbers 17: a refusal, beside the state that it leaves
 abbrev pub refused : Refusal → System → After
-refused r s = record { outcome = Refused r; system = s }
+refused r s = record { outcome = Err r; system = s }
 
 -- Numbers 1: a step that was done, with what it answers, beside the state after it
 abbrev pub done : Answer → System → After
-done a s = record { outcome = Done a; system = s }
+done a s = record { outcome = Ok a; system = s }
 
 -- Parts 7, Numbers 12, 18: sizes outside their limits are refused with 12, and the state then holds 0 everywhere
 unfoldable pub fresh_of : Sizes → After

@@ -4,9 +4,9 @@ use Rattle.model.specs.declared.Answer.{Answer}
 use Rattle.model.specs.declared.Answer.TheVariants.{Nothing, Loaded, Acknowledged}
 use Rattle.model.specs.declared.Refusal.{Refusal}
 use Rattle.model.specs.declared.Refusal.TheVariants.{NotSound, NoSuchSite, AddressPastLast, TagOutstanding, MayNotIssue, StallFull, NothingThere, MustStillWait, NoRecord, BufferShort, SizeOutside, RecordLong}
-use Rattle.model.specs.declared.Outcome.{Outcome}
-use Rattle.model.specs.declared.Outcome.TheVariants.{Done, Refused}
 use Rattle.model.specs.declared.Given.{Given}
+use Rattle.std.specs.Prelude.{Ok, Err}
+use Rattle.model.specs.Results.{Outcome}
 
 -- Numbers 13: a record is at most so many bytes long
 abbrev pub most_bytes : ℕ
@@ -54,5 +54,5 @@ refusal_given r = record { number = number_of r; place = place_given r; answered
 
 -- Shape 15: the number and the values of each case
 unfoldable pub given : Outcome → Given
-given (Done a) = answer_given a
-given (Refused r) = refusal_given r
+given (Ok a) = answer_given a
+given (Err r) = refusal_given r

@@ -1,5 +1,6 @@
 pub mod Limits
 pub mod Kinds
+pub mod Results
 pub mod Fresh
 pub mod Parts
 pub mod Sets

@@ -2,7 +2,6 @@
 use mathlib.Core.List.{List, [], ◌∷◌, ◌++◌, flat_map}
 use Rattle.std.specs.Prelude.{Bool, true, false, ◌||◌, cond, ℕ, ◌+◌, leb, eqb, length, get_or}
 use Rattle.std.proofs.lemmas.List.Edits.{sets}
-use Rattle.numbers.specs.declared.Got.TheVariants.{Number, Fault}
 use Rattle.numbers.specs.Groups.{bytes_of, read_number}
 use Rattle.model.specs.declared.Sizes.{Sizes}
 use Rattle.model.specs.declared.Instruction.{Instruction}
@@ -10,16 +9,12 @@ use Rattle.model.specs.declared.Instruction.TheVariants.{Loadl, Storel, Commit, 
 use Rattle.model.specs.declared.Step.{Step}
 use Rattle.model.specs.declared.Step.TheVariants.{Issue, Retry, Send, ArriveMemory, Serve, SendBack, ArriveSite, Take}
 use Rattle.model.specs.declared.Refusal.TheVariants.{NoRecord, BufferShort, SizeOutside, RecordLong}
-use Rattle.model.specs.declared.ReadSizes.{ReadSizes}
-use Rattle.model.specs.declared.ReadSizes.TheVariants.{Sized, NoSizes}
-use Rattle.model.specs.declared.ReadStep.{ReadStep}
-use Rattle.model.specs.declared.ReadStep.TheVariants.{One, End, NoStep}
-use Rattle.model.specs.declared.Wrote.{Wrote}
-use Rattle.model.specs.declared.Wrote.TheVariants.{Past, NotWritten}
 use Rattle.model.specs.Limits.{in_limits}
 use Rattle.model.specs.Kinds.{loadl, storel, commit, reconcile, fence_rr, fence_rw, fence_wr}
 use Rattle.model.specs.Issue.{kind_of}
 use Rattle.model.specs.Given.{most_bytes}
+use Rattle.std.specs.Prelude.{Ok, Err}
+use Rattle.model.specs.Results.{ReadSizes, ReadStep, Wrote, sized, one, no_more}
 
 -- THE LIMITS OF THE FIELDS
 
@@ -94,7 +89,7 @@ consed v (fault_at place) = fault_at place
 -- Record 1, 6: a number for each limit, one behind the other
 unfoldable pub read_numbers : List ℕ → List ℕ → ℕ → Numbers
 read_numbers [] bs at = numbers [] at
-read_numbers (most ∷ ms) bs at = elim (read_number most bs at) [ Number v next ↦ consed v (read_numbers ms bs next) | Fault place ↦ fault_at place ]
+read_numbers (most ∷ ms) bs at = elim (read_number most bs at) [ Ok (v, next) ↦ consed v (read_numbers ms bs next) | Err fault ↦ fault_at fault.place ]
 
 -- Covers 3: six numbers as sizes
 abbrev pub sizes_of : List ℕ → Sizes
@@ -102,12 +97,12 @@ sizes_of vs = record { sites = get_or vs 0 0; words = get_or vs 1 0; lines = get
 
 -- Numbers 12: sizes outside their limits
 abbrev pub sized_by : Sizes → ℕ → ReadSizes
-sized_by z at = cond (in_limits z) (Sized z at) (NoSizes SizeOutside)
+sized_by z at = cond (in_limits z) (sized z at) (Err SizeOutside)
 
 -- Numbers 15a: a fault among the six numbers comes before their limits
 unfoldable pub sizes_from : Numbers → ReadSizes
 sizes_from (numbers vs at) = sized_by (sizes_of vs) at
-sizes_from (fault_at place) = NoSizes (NoRecord place)
+sizes_from (fault_at place) = Err (NoRecord place)
 
 -- Covers 10: each size is read as a number of any magnitude
 abbrev pub six_limits : List ℕ
@@ -115,7 +110,7 @@ six_limits = most_number ∷ most_number ∷ most_number ∷ most_number ∷ mos
 
 -- Numbers 13, 14c: too long a record is refused before its bytes are looked at
 unfoldable pub read_sizes : List ℕ → ReadSizes
-read_sizes bs = cond (leb (length bs) most_bytes) (sizes_from (read_numbers six_limits bs 0)) (NoSizes RecordLong)
+read_sizes bs = cond (leb (length bs) most_bytes) (sizes_from (read_numbers six_limits bs 0)) (Err RecordLong)
 
 -- READING A STEP
 
@@ -138,18 +133,18 @@ instruction_of k a b =
 
 -- Record 3a: an issue, from its tag and operands
 unfoldable pub issue_from : ℕ → ℕ → Numbers → ReadStep
-issue_from i k (numbers vs at) = One (Issue i (get_or vs 0 0) (instruction_of k (get_or vs 1 0) (get_or vs 2 0))) at
-issue_from i k (fault_at place) = NoStep (NoRecord place)
+issue_from i k (numbers vs at) = one (Issue i (get_or vs 0 0) (instruction_of k (get_or vs 1 0) (get_or vs 2 0))) at
+issue_from i k (fault_at place) = Err (NoRecord place)
 
 -- Record 3a, 6e: an issue, behind its step number: its site, its instruction number, which is a fault at its first byte above 7, and the rest
 unfoldable pub read_issue : List ℕ → ℕ → ReadStep
 read_issue bs at =
     elim (read_number most_number bs at) [
-      | Fault place ↦ NoStep (NoRecord place)
-      | Number i next ↦
+      | Err fault ↦ Err (NoRecord fault.place)
+      | Ok (i, next) ↦
           elim (read_number most_number bs next) [
-            | Fault place ↦ NoStep (NoRecord place)
-            | Number k after ↦ cond (leb k 7) (issue_from i k (read_numbers (issue_limits k) bs after)) (NoStep (NoRecord next))
+            | Err fault ↦ Err (NoRecord fault.place)
+            | Ok (k, after) ↦ cond (leb k 7) (issue_from i k (read_numbers (issue_limits k) bs after)) (Err (NoRecord next))
           ]
     ]
 
@@ -166,20 +161,20 @@ move_of k v =
 -- Record 3b: a step other than an issue: one field, a site or a position, which serve and send-back do without
 unfoldable pub read_move : List ℕ → ℕ → ℕ → ReadStep
 read_move bs k at =
-    cond (eqb k 4 || eqb k 5) (One (move_of k 0) at)
-    (elim (read_number most_number bs at) [ Fault place ↦ NoStep (NoRecord place) | Number v next ↦ One (move_of k v) next ])
+    cond (eqb k 4 || eqb k 5) (one (move_of k 0) at)
+    (elim (read_number most_number bs at) [ Err fault ↦ Err (NoRecord fault.place) | Ok (v, next) ↦ one (move_of k v) next ])
 
 -- Record 4, 6d: the fields of a step of kind k, behind its number at `start`. A step number above 7 is a fault at its first byte.
 unfoldable pub read_fields : List ℕ → ℕ → ℕ → ℕ → ReadStep
-read_fields bs start k at = cond (leb k 7) (cond (eqb k 0) (read_issue bs at) (read_move bs k at)) (NoStep (NoRecord start))
+read_fields bs start k at = cond (leb k 7) (cond (eqb k 0) (read_issue bs at) (read_move bs k at)) (Err (NoRecord start))
 
 -- Record 3: the step at an offset
 unfoldable pub step_at : List ℕ → ℕ → ReadStep
-step_at bs at = elim (read_number most_number bs at) [ Fault place ↦ NoStep (NoRecord place) | Number k next ↦ read_fields bs at k next ]
+step_at bs at = elim (read_number most_number bs at) [ Err fault ↦ Err (NoRecord fault.place) | Ok (k, next) ↦ read_fields bs at k next ]
 
 -- Record 7, Numbers 14c: at the end of the bytes there is no step but the end; past it, every fault is placed at the offset that was named
 unfoldable pub read_step_of : ℕ → List ℕ → ℕ → ReadStep
-read_step_of size bs at = cond (leb size most_bytes) (cond (eqb at size) End (step_at bs at)) (NoStep RecordLong)
+read_step_of size bs at = cond (leb size most_bytes) (cond (eqb at size) no_more (step_at bs at)) (Err RecordLong)
 
 -- Record 7: the same, for bytes of any length
 abbrev pub read_step : List ℕ → ℕ → ReadStep
@@ -198,26 +193,26 @@ written w buf = record { wrote = w; buffer = buf }
 
 -- Numbers 1: whether a writer wrote
 abbrev pub is_past : Wrote → Bool
-is_past (Past end) = true
-is_past (NotWritten why) = false
+is_past (Ok end) = true
+is_past (Err why) = false
 
 -- Numbers 17b: the offset past what it wrote; with a refusal it is 0
 abbrev pub past_of : Wrote → ℕ
-past_of (Past end) = end
-past_of (NotWritten why) = 0
+past_of (Ok end) = end
+past_of (Err why) = 0
 
 -- Numbers 11a: some bytes at an offset of a buffer, a record's or a listing's; 11 and nothing written where they do not fit
 unfoldable pub put_at : List ℕ → List ℕ → ℕ → Written
 put_at new buf at =
-    cond (leb (at + length new) (length buf)) (written (Past (at + length new)) (sets buf at new)) (written (NotWritten BufferShort) buf)
+    cond (leb (at + length new) (length buf)) (written (Ok (at + length new)) (sets buf at new)) (written (Err BufferShort) buf)
 
 -- Numbers 13, 16: in a record, 13 before that, where it would end past its most
 unfoldable pub written_at : List ℕ → List ℕ → ℕ → Written
-written_at new buf at = cond (leb (at + length new) most_bytes) (put_at new buf at) (written (NotWritten RecordLong) buf)
+written_at new buf at = cond (leb (at + length new) most_bytes) (put_at new buf at) (written (Err RecordLong) buf)
 
 -- Numbers 16: 12 comes before both
 unfoldable pub write_sizes : Sizes → List ℕ → Written
-write_sizes z buf = cond (in_limits z) (written_at (sizes_bytes z) buf 0) (written (NotWritten SizeOutside) buf)
+write_sizes z buf = cond (in_limits z) (written_at (sizes_bytes z) buf 0) (written (Err SizeOutside) buf)
 
 -- Record 3: a step, at an offset
 unfoldable pub write_step : Step → List ℕ → ℕ → Written

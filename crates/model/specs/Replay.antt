@@ -9,16 +9,14 @@ use Rattle.model.specs.declared.Step.TheVariants.{Issue, Retry, Send, ArriveMemo
 use Rattle.model.specs.declared.Answer.{Answer}
 use Rattle.model.specs.declared.Answer.TheVariants.{Nothing, Loaded, Acknowledged}
 use Rattle.model.specs.declared.Refusal.{Refusal}
-use Rattle.model.specs.declared.Outcome.{Outcome}
-use Rattle.model.specs.declared.Outcome.TheVariants.{Done, Refused}
 use Rattle.model.specs.declared.After.{After}
-use Rattle.model.specs.declared.ReadSizes.TheVariants.{Sized, NoSizes}
-use Rattle.model.specs.declared.ReadStep.TheVariants.{One, End, NoStep}
 use Rattle.model.specs.Given.{number_of, place_given}
 use Rattle.model.specs.Fresh.{blank}
 use Rattle.model.specs.Left.{outstanding_left, messages_left}
 use Rattle.model.specs.Record.{read_sizes, read_step}
 use Rattle.model.specs.Steps.{stepped}
+use Rattle.std.specs.Prelude.{Ok, Err, Some, None}
+use Rattle.model.specs.Results.{Outcome}
 
 -- WORDS AND NUMBERS, IN ASCII
 
@@ -71,8 +69,8 @@ answer_text (Acknowledged i t) = word " answer " i ++ word " " t ++ text " ack"
 
 -- Replay 2b: the number given back, and the answer
 unfoldable pub outcome_text : Outcome → List ℕ
-outcome_text (Done a) = decimal 0 ++ answer_text a
-outcome_text (Refused why) = decimal (number_of why)
+outcome_text (Ok a) = decimal 0 ++ answer_text a
+outcome_text (Err why) = decimal (number_of why)
 
 -- Replay 2b: a line for a step: which one it is, counted from 1, its name, its number given back, its answer if there is one
 abbrev pub step_line : ℕ → Step → Outcome → List ℕ
@@ -101,9 +99,9 @@ unfoldable pub listed_from : ℕ → List ℕ → ℕ → ℕ → System → Lis
 listed_from zero bs at n s = []
 listed_from (suc g) bs at n s =
     elim (read_step bs at) [
-      | One x next ↦ step_and n x (stepped s x) (λ t. listed_from g bs next (suc n) t)
-      | End ↦ left_of s
-      | NoStep why ↦ record_line why
+      | Ok (Some (x, next)) ↦ step_and n x (stepped s x) (λ t. listed_from g bs next (suc n) t)
+      | (Ok None) ↦ left_of s
+      | Err why ↦ record_line why
     ]
 
 -- Replay 2b: a step takes a byte at least, so that no line is missed
@@ -112,4 +110,4 @@ listed_at bs at n s = listed_from (suc (length bs - at)) bs at n s
 
 -- Replay 2, 3c: nothing is listed before the `record` line where the length or the sizes are at fault
 unfoldable pub listing : List ℕ → List ℕ
-listing bs = elim (read_sizes bs) [ Sized z past ↦ sizes_line z ++ listed_at bs past 1 (blank z) | NoSizes why ↦ record_line why ]
+listing bs = elim (read_sizes bs) [ Ok (z, past) ↦ sizes_line z ++ listed_at bs past 1 (blank z) | Err why ↦ record_line why ]

@@ -2,8 +2,6 @@
 use Rattle.std.specs.Prelude.{◌≡◌, Bool, true, false, not, ◌&&◌, cond, ℕ, suc, eqb, get_or, length, take}
 use mathlib.Core.List.{List, [], ◌∷◌, ◌++◌, flat_map, map}
 use Prim.Native.String.{String}
-use Rattle.numbers.specs.declared.Got.{Got}
-use Rattle.numbers.specs.declared.Got.TheVariants.{Number, Fault}
 use Rattle.numbers.specs.Groups.{bytes_of, read_number, encoded, above, decoded, limited}
 use Rattle.model.specs.declared.Sizes.{Sizes}
 use Rattle.model.specs.declared.Message.{Message}
@@ -22,12 +20,6 @@ use Rattle.model.specs.declared.Drained.{Drained}
 use Rattle.model.specs.declared.Given.{Given}
 use Rattle.model.specs.declared.Step.{Step}
 use Rattle.model.specs.declared.Step.TheVariants.{Send, ArriveMemory, Serve, SendBack, ArriveSite, Take}
-use Rattle.model.specs.declared.ReadSizes.{ReadSizes}
-use Rattle.model.specs.declared.ReadSizes.TheVariants.{Sized, NoSizes}
-use Rattle.model.specs.declared.ReadStep.{ReadStep}
-use Rattle.model.specs.declared.ReadStep.TheVariants.{One, End, NoStep}
-use Rattle.model.specs.declared.Wrote.{Wrote}
-use Rattle.model.specs.declared.Wrote.TheVariants.{Past, NotWritten}
 use Rattle.model.specs.Fresh.{fresh_of}
 use Rattle.model.specs.Parts.{past_line, past_cache, past_pends, past_stalls, past_site_queue}
 use Rattle.model.specs.Steps.{stepped, entered, issued_at, issued, resumed, retried_at, retried, after_send, sent_from, sent, after_arrive_memory}
@@ -49,6 +41,9 @@ use Rattle.model.specs.Issue.{kind_of, first_address, last_address, value_of, ad
 use Rattle.model.specs.Handling.{missed, on_loadl, on_storel, absent, on_commit, on_reconcile, decided, performed}
 use Rattle.model.specs.Serve.{merged, memory_after, reply_to}
 use Rattle.model.specs.Take.{settled, taken}
+use Rattle.std.specs.Prelude.{Ok, Err, Some, None}
+use Rattle.model.specs.Results.{ReadSizes, ReadStep, Wrote}
+use Rattle.numbers.specs.Groups.{Got}
 
 -- WHAT IS GIVEN BACK
 
@@ -79,21 +74,21 @@ no n = n ∷ 0 ∷ 0 ∷ 0 ∷ 0 ∷ 0 ∷ []
 
 -- what a reader or a writer gives: 0 with the offset past and what was read, or a refusal's number with its place. The end is no number.
 unfoldable pub sizes_given : ReadSizes → List ℕ
-sizes_given (Sized z at) = 0 ∷ at ∷ six_of z
-sizes_given (NoSizes r) = number_of r ∷ place_given r ∷ []
+sizes_given (Ok (z, at)) = 0 ∷ at ∷ six_of z
+sizes_given (Err r) = number_of r ∷ place_given r ∷ []
 
 unfoldable pub step_given : ReadStep → List ℕ
-step_given (One x at) = 0 ∷ at ∷ numbers_of x
-step_given End = []
-step_given (NoStep r) = number_of r ∷ place_given r ∷ []
+step_given (Ok (Some (x, at))) = 0 ∷ at ∷ numbers_of x
+step_given (Ok None) = []
+step_given (Err r) = number_of r ∷ place_given r ∷ []
 
 unfoldable pub wrote_given : Wrote → List ℕ
-wrote_given (Past at) = 0 ∷ at ∷ []
-wrote_given (NotWritten r) = number_of r ∷ place_given r ∷ []
+wrote_given (Ok at) = 0 ∷ at ∷ []
+wrote_given (Err r) = number_of r ∷ place_given r ∷ []
 
 unfoldable pub got_given : Got → List ℕ
-got_given (Number v at) = 0 ∷ at ∷ v ∷ []
-got_given (Fault place) = 10 ∷ place ∷ []
+got_given (Ok (v, at)) = 0 ∷ at ∷ v ∷ []
+got_given (Err fault) = 10 ∷ fault.place ∷ []
 
 -- ACTS ON A SYSTEM
 
@@ -295,14 +290,14 @@ fresh_right r n acts = eqb (given r.outcome).number n && all_right r.system acts
 unfoldable pub reads_all : List ℕ → ℕ → List Step → Bool
 reads_all bs at [] = same_numbers (step_given (read_step bs at)) []
 reads_all bs at (x ∷ xs) =
-    elim (read_step bs at) [ One y next ↦ same_numbers (numbers_of y) (numbers_of x) && reads_all bs next xs | End ↦ false | NoStep r ↦ false ]
+    elim (read_step bs at) [ Ok (Some (y, next)) ↦ same_numbers (numbers_of y) (numbers_of x) && reads_all bs next xs | (Ok None) ↦ false | Err r ↦ false ]
 
 unfoldable pub wrote_right : Written → List ℕ → List ℕ → Bool
 wrote_right w ns buf = same_numbers (wrote_given w.wrote) ns && same_numbers w.buffer buf
 
 unfoldable pub reads_record : ReadSizes → List ℕ → Sizes → List Step → Bool
-reads_record (Sized z at) bs z' xs = same_numbers (sizes_given (Sized z at)) (sizes_given (Sized z' 6)) && reads_all bs at xs
-reads_record (NoSizes r) bs z' xs = false
+reads_record (Ok (z, at)) bs z' xs = same_numbers (sizes_given (Ok (z, at))) (sizes_given (Ok (z', 6))) && reads_all bs at xs
+reads_record (Err r) bs z' xs = false
 
 -- Whoever unfolds it unfolds every definition of document 01 with it, so that a sample computes.
 unfoldable pub holds : Sample → Bool

@@ -16,8 +16,6 @@ use Rattle.model.specs.declared.Answer.{Answer}
 use Rattle.model.specs.declared.Answer.TheVariants.{Nothing, Acknowledged}
 use Rattle.model.specs.declared.Refusal.{Refusal}
 use Rattle.model.specs.declared.Refusal.TheVariants.{NotSound, NoSuchSite, AddressPastLast, TagOutstanding, MayNotIssue, StallFull, NothingThere, MustStillWait}
-use Rattle.model.specs.declared.Outcome.{Outcome}
-use Rattle.model.specs.declared.Outcome.TheVariants.{Done, Refused}
 use Rattle.model.specs.Fresh.{no_waiting, done, refused}
 use Rattle.model.specs.Parts.{Site, site_at, put_site, with_memory, with_out, with_in, with_nets, past_entry, past_waiting, past_site_queue, with_incoming, with_stalls, site_put, site_head, site_rest, net_put, net_at, net_rest}
 use Rattle.model.specs.Sound.{sound}
@@ -25,6 +23,8 @@ use Rattle.model.specs.Issue.{is_fence, as_waiting, addresses_fit, tag_free, may
 use Rattle.model.specs.Handling.{place_of, facts_of, decided, Handled, performed, must_wait}
 use Rattle.model.specs.Serve.{line_at, memory_after, reply_to}
 use Rattle.model.specs.Take.{entry_for, taken}
+use Rattle.std.specs.Prelude.{Ok, Err}
+use Rattle.model.specs.Results.{Outcome}
 
 -- Numbers 14a, 17d: without the test passed, a refusal and the state as it was
 abbrev pub unless : Bool → Refusal → System → After → After
@@ -195,10 +195,10 @@ stepped s x = unless (sound s) NotSound s (step_of s x)
 
 -- Numbers 1: the outcome is no refusal
 abbrev pub is_done : Outcome → Bool
-is_done (Done a) = true
-is_done (Refused r) = false
+is_done (Ok a) = true
+is_done (Err r) = false
 
 -- Numbers 17a: the answer, of which a refusal has none
 abbrev pub answer_of : Outcome → Answer
-answer_of (Done a) = a
-answer_of (Refused r) = Nothing
+answer_of (Ok a) = a
+answer_of (Err r) = Nothing

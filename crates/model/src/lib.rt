@@ -1,10 +1,14 @@
-// The types of document 01: what a system holds, the steps, the instructions, and what an operation gives back. And the fresh system.
-// What they mean is in specs/. An array has the largest size that a system may have; a count or a size says how much is in use.
+// The types of document 01: what a system holds, the steps, the instructions, and what an operation gives back. And the
+// fresh system. What they mean is in specs/. An array has the largest size that a system may have; a count or a size
+// says how much is in use.
 #![tactic(auto)]
 
 ghost use Rattle.std.specs.Prelude.{◌≡◌};
 ghost use Rattle.model.specs.Limits.{within, in_limits};
+ghost use Rattle.model.specs.declared.Refusal.TheVariants.{NoRecord};
 ghost use Rattle.model.specs.Fresh.{no_sizes, no_message, no_entry, no_waiting, no_place, blank, fresh_of};
+
+use numbers::Fault;
 
 // A record is at most so many bytes long (Numbers 13).
 pub const MOST_BYTES: usize = 65536;
@@ -14,7 +18,7 @@ pub type Value = u32;
 
 // The six sizes of a system, in document 01's order (Covers 3).
 #[repr(C)]
-#[derive(Clone, Copy)]
+#[derive(Clone, Copy, Default)]
 pub struct Sizes {
     pub sites: u8,
     pub words: u8,
@@ -26,7 +30,7 @@ pub struct Sizes {
 
 // kind: 0 fetch, 1 write-back, 2 fetch reply, 3 acknowledgement.
 #[repr(C)]
-#[derive(Clone, Copy)]
+#[derive(Clone, Copy, Default)]
 pub struct Message {
     pub kind: u8,
     pub site: u8,
@@ -37,7 +41,7 @@ pub struct Message {
 
 // A pend entry: what a site waits for. kind: 0 Loadl, 1 Storel, 2 Commit, 3 Reconcile, 4 voluntary.
 #[repr(C)]
-#[derive(Clone, Copy)]
+#[derive(Clone, Copy, Default)]
 pub struct Entry {
     pub kind: u8,
     pub line: u8,
@@ -49,7 +53,7 @@ pub struct Entry {
 
 // An instruction in the stall queue, its address as a line and a word. kind: 0 Loadl, 1 Storel, 2 Commit, 3 Reconcile.
 #[repr(C)]
-#[derive(Clone, Copy)]
+#[derive(Clone, Copy, Default)]
 pub struct Waiting {
     pub kind: u8,
     pub line: u8,
@@ -60,7 +64,7 @@ pub struct Waiting {
 
 // Where a set keeps a line (Parts 2a, 2b): its words, each with its mark Dirty or not.
 #[repr(C)]
-#[derive(Clone, Copy)]
+#[derive(Clone, Copy, Default)]
 pub struct Place {
     pub used: bool,
     pub line: u8,
@@ -192,12 +196,17 @@ pub enum Refusal {
     RecordLong,
 }
 
-// What comes of an operation on a system.
-#[derive(Clone, Copy)]
-pub enum Outcome {
-    Done(Answer),
-    Refused(Refusal),
+// What is no number is no record (Record 6).
+impl From<Fault> for Refusal {
+    ghost from_gives = { λ fault why. why ≡ NoRecord fault.place };
+
+    fn from(fault: Fault) -> Refusal {
+        Refusal::NoRecord(fault.place)
+    }
 }
+
+// What comes of an operation on a system.
+pub type Outcome = Result<Answer, Refusal>;
 
 // An operation's outcome, and the system after it.
 #[derive(Clone, Copy)]
@@ -231,7 +240,8 @@ pub enum Action {
     Wait,
 }
 
-// What a drain gives (Drain 3): its outcome, how many steps it took, whether the system is quiet after them, how many bytes they are, and the system.
+// What a drain gives (Drain 3): its outcome, how many steps it took, whether the system is quiet after them, how many
+// bytes they are, and the system.
 #[derive(Clone, Copy)]
 pub struct Drained {
     pub outcome: Outcome,
@@ -242,30 +252,17 @@ pub struct Drained {
 }
 
 // The sizes of a record, with the offset past them.
-#[derive(Clone, Copy)]
-pub enum ReadSizes {
-    Sized(Sizes, usize),
-    NoSizes(Refusal),
-}
+pub type ReadSizes = Result<(Sizes, usize), Refusal>;
 
-// The step at an offset of a record, with the offset past it; or the record's end.
-#[derive(Clone, Copy)]
-pub enum ReadStep {
-    One(Step, usize),
-    End,
-    NoStep(Refusal),
-}
+// The step at an offset of a record, with the offset past it; or none at the record's end.
+pub type ReadStep = Result<Option<(Step, usize)>, Refusal>;
 
 // What a writer gives: the offset past the bytes written.
-#[derive(Clone, Copy)]
-pub enum Wrote {
-    Past(usize),
-    NotWritten(Refusal),
-}
+pub type Wrote = Result<usize, Refusal>;
 
 // An outcome as document 01's numbers. answered: 0 no answer, 1 a value, 2 an acknowledgement.
 #[repr(C)]
-#[derive(Clone, Copy)]
+#[derive(Clone, Copy, Default)]
 pub struct Given {
     pub number: u32,
     pub place: usize,
@@ -279,7 +276,7 @@ pub struct Given {
 fn in_limit(most: u8, n: u8) -> bool
     ensures { result ≡ within most n }
 {
-    (1 <= n) & (n <= most)
+    (1..=most).contains(&n)
 }
 
 impl Sizes {
@@ -287,26 +284,20 @@ impl Sizes {
     pub fn none() -> Sizes
         ensures { result ≡ no_sizes }
     {
-        Sizes {
-            sites: 0,
-            words: 0,
-            lines: 0,
-            sets: 0,
-            pend: 0,
-            stall: 0,
-        }
+        Sizes::default()
     }
 
     // Each size lies within its row of the table (Covers 4 to 9).
+    #[tactic(auto, unfolding(crate::specs::Limits::in_limits))]
     pub fn fit(self) -> bool
         ensures { result ≡ in_limits self }
     {
         in_limit(System::MOST_SITES, self.sites)
-            & in_limit(System::MOST_WORDS, self.words)
-            & in_limit(System::MOST_LINES, self.lines)
-            & in_limit(System::MOST_SETS, self.sets)
-            & in_limit(System::MOST_PEND, self.pend)
-            & in_limit(System::MOST_STALL, self.stall)
+            && in_limit(System::MOST_WORDS, self.words)
+            && in_limit(System::MOST_LINES, self.lines)
+            && in_limit(System::MOST_SETS, self.sets)
+            && in_limit(System::MOST_PEND, self.pend)
+            && in_limit(System::MOST_STALL, self.stall)
     }
 }
 
@@ -314,13 +305,7 @@ impl Message {
     pub fn none() -> Message
         ensures { result ≡ no_message }
     {
-        Message {
-            kind: 0,
-            site: 0,
-            line: 0,
-            dirty: [false; 4],
-            values: [0; 4],
-        }
+        Message::default()
     }
 }
 
@@ -328,14 +313,7 @@ impl Entry {
     pub fn none() -> Entry
         ensures { result ≡ no_entry }
     {
-        Entry {
-            kind: 0,
-            line: 0,
-            word: 0,
-            tag: 0,
-            value: 0,
-            values: [0; 4],
-        }
+        Entry::default()
     }
 }
 
@@ -343,13 +321,7 @@ impl Waiting {
     pub fn none() -> Waiting
         ensures { result ≡ no_waiting }
     {
-        Waiting {
-            kind: 0,
-            line: 0,
-            word: 0,
-            tag: 0,
-            value: 0,
-        }
+        Waiting::default()
     }
 }
 
@@ -357,12 +329,7 @@ impl Place {
     pub fn none() -> Place
         ensures { result ≡ no_place }
     {
-        Place {
-            used: false,
-            line: 0,
-            dirty: [false; 4],
-            values: [0; 4],
-        }
+        Place::default()
     }
 }
 
@@ -383,54 +350,49 @@ impl System {
     pub const MOST_DRAIN: usize = 656;
 
     // A fresh system (Parts 7); for sizes outside their limits it holds 0 everywhere (Numbers 18a).
+    #[tactic(auto, unfolding(crate::specs::Fresh::fresh_of))]
     pub fn fresh(z: Sizes) -> After
         ensures { result ≡ fresh_of z }
     {
         if z.fit() {
-            let s = System::empty(z);
             return After {
-                outcome: Outcome::Done(Answer::Nothing),
-                system: s,
+                outcome: Ok(Answer::Nothing),
+                system: System::empty(z),
             };
         }
-        let s = System::empty(Sizes::none());
         After {
-            outcome: Outcome::Refused(Refusal::SizeOutside),
-            system: s,
+            outcome: Err(Refusal::SizeOutside),
+            system: System::empty(Sizes::none()),
         }
     }
 
     // All 0 but the sizes.
+    #[tactic(auto, using(lists::proofs::Places::set_same))]
     fn empty(z: Sizes) -> System
         ensures { result ≡ blank z }
     {
         let line = Line { values: [0; 4] };
-        let place = Place::none();
-        let set = CacheSet { low: place };
-        let cache = Cache { sets: [set; 8] };
-        let entry = Entry::none();
+        let set = CacheSet { low: Place::none() };
         let pends = Pends {
-            entries: [entry; 5],
+            entries: [Entry::none(); 5],
             count: 0,
         };
-        let wait = Waiting::none();
         let stalls = Stalls {
-            waiting: [wait; 8],
+            waiting: [Waiting::none(); 8],
             count: 0,
         };
-        let message = Message::none();
         let near = SiteQueue {
-            items: [message; 5],
+            items: [Message::none(); 5],
             count: 0,
         };
         let far = Queue {
-            items: [message; 20],
+            items: [Message::none(); 20],
             count: 0,
         };
         let mut s = System {
             sizes: z,
             memory: [line; 16],
-            caches: [cache; 4],
+            caches: [Cache { sets: [set; 8] }; 4],
             pends: [pends; 4],
             stalls: [stalls; 4],
             outgoing: [near; 4],
@@ -440,7 +402,8 @@ impl System {
             served: far,
             down: far,
         };
-        // What stands there already: a store at an index that is not constant keeps the compiler from cutting the state into pieces.
+        // Changes nothing: the line is 0 already. A store at an index known only when it runs keeps the state in one
+        // piece, which is faster.
         let k = (z.sites % 16) as usize;
         s.memory[k] = line;
         s

@@ -7,9 +7,8 @@ use native.Mathlib.Omega.{arith}
 use lib.Dec.{leb, ltb, leb→le}
 use lib.ListN.{length, drop, length-drop}
 use Rattle.lists.proofs.Tests.{by_cond}
-use Rattle.numbers.specs.declared.Got.{Got}
-use Rattle.numbers.specs.declared.Got.TheVariants.{Number, Fault}
-use Rattle.numbers.specs.Groups.{Decoded, number, fault, above, decoded, most_groups, limited, read_number}
+use Rattle.std.specs.Prelude.{Ok, Err}
+use Rattle.numbers.specs.Groups.{Got, no_number, Decoded, number, fault, above, decoded, most_groups, limited, read_number}
 
 -- groups take a byte at least, and no more bytes than there are
 abbrev GroupsSay : List ℕ → Decoded → Type 0
@@ -39,8 +38,8 @@ pub record Found (most : ℕ) (bs : List ℕ) (at v next : ℕ) : Type 0 where
 
 -- what a number's answer says of the bytes: a fault is at the start
 abbrev pub NumberSays : ℕ → List ℕ → ℕ → Got → Type 0
-NumberSays most bs at (Number v next) = Found most bs at v next
-NumberSays most bs at (Fault place) = place ≡ at
+NumberSays most bs at (Ok (v, next)) = Found most bs at v next
+NumberSays most bs at (Err e) = e.place ≡ at
 
 pub number-says : (most : ℕ) (bs : List ℕ) (at : ℕ) → NumberSays most bs at (read_number most bs at)
 unfolding read_number limited
@@ -60,5 +59,5 @@ number-says most bs at = go (decoded most_groups true (drop at bs)) refl (groups
         (λ t. refl)
     go fault e h = refl
 
-pub fault-place : (most : ℕ) (bs : List ℕ) (at place : ℕ) → read_number most bs at ≡ Fault place → place ≡ at
+pub fault-place : (most : ℕ) (bs : List ℕ) (at place : ℕ) → read_number most bs at ≡ no_number place → place ≡ at
 fault-place most bs at place e = rw e at (number-says most bs at)

@@ -6,12 +6,11 @@ use Prim.Native.Nat.{ℕ, zero, suc, ◌+◌, ◌-◌, ◌*◌, ◌/◌, ◌%◌
 use native.Mathlib.Numerals.{add-one}
 use native.Mathlib.Omega.{arith}
 use lib.Dec.{leb, ltb}
-use lib.ListN.{length, drop, get_or, set, drop_of_length-le}
+use lib.ListN.{length, drop, get_or, set, drop_of_length-le, length-set}
 use lib.Seq.{drop-cons, sets}
 use borrow.Author.Tests.{le-leb, lt-leb, leb-true, leb-false, ltb-true, ltb-false}
-use Rattle.numbers.specs.declared.Got.{Got}
-use Rattle.numbers.specs.declared.Got.TheVariants.{Number, Fault}
-use Rattle.numbers.specs.Groups.{encoded, bytes_of, Decoded, number, fault, above, decoded, limited, Put, put_to, put_bytes}
+use Rattle.std.specs.Prelude.{Ok, Err}
+use Rattle.numbers.specs.Groups.{Got, no_number, got, encoded, bytes_of, Decoded, number, fault, above, decoded, limited, Put, put_to, put_bytes}
 use Rattle.numbers.proofs.Codec.{never, encoded_last, encoded_more, decoded_last, decoded_long, decoded_more}
 
 -- WRITING
@@ -59,13 +58,22 @@ put_more l at n p h k e =
     let q : at + 1 + length (bytes_of (n / 128)) ≡ at + suc (length (bytes_of (n / 128))) = omega arith in
     e ∙ rw (bytes_more n h k, add-one at) (ap (λ (m : ℕ). put_to m (sets (set l at (128 + n % 128)) (suc at) (bytes_of (n / 128)))) (rw (add-one at) at q))
 
+-- what tells how a number is written
+pub ruleset writing = (bytes_last, bytes_more, put_more, length-set)
+
 -- READING
 
-not-number : {p v n : ℕ} → Fault p ≡ Number v n → ⊥
+not-number : {p v n : ℕ} → no_number p ≡ got v n → ⊥
 not-number e = let z : ◌≡◌ {A = ℕ} 0 1 = cc in omega arith
 
-number_got : {v w n m : ℕ} → Number v n ≡ Number w m → v ≡ w
-number_got e = cc
+-- the number that was got, or 0
+unfoldable number_in : Got → ℕ
+number_in (Ok (v, past)) = v
+number_in (Err e) = 0
+
+number_got : {v w n m : ℕ} → got v n ≡ got w m → v ≡ w
+unfolding number_in
+number_got e = ap number_in e
 
 number_of : {v w k j : ℕ} → number v k ≡ number w j → v ≡ w
 number_of e = cc
@@ -92,8 +100,8 @@ decoded_positive (suc g) (b ∷ bs) v k e = by (ltb b 128) refl (λ w j q. decod
 
 -- the number that the groups above a lowest one make with it
 abbrev onto : ℕ → ℕ → ℕ → Got → Got
-onto low most at (Number v past) = cond (leb (low + v * 128) most) (Number (low + v * 128) past) (Fault at)
-onto low most at (Fault place) = Fault at
+onto low most at (Ok (v, past)) = cond (leb (low + v * 128) most) (got (low + v * 128) past) (no_number at)
+onto low most at (Err e) = no_number at
 
 -- those groups have a limit of their own
 limited-above : (low most at : ℕ) (d : Decoded) → low < 128 → limited most at (above low d) ≡ onto low most at (limited (most / 128) (at + 1) d)
@@ -102,15 +110,15 @@ limited-above low most at fault h = refl
 limited-above low most at (number v k) h = by (leb v (most / 128)) refl
   where
     by : (b : Bool) → leb v (most / 128) ≡ b →
-        cond (leb (low + v * 128) most) (Number (low + v * 128) (at + suc k)) (Fault at) ≡
-        onto low most at (cond (leb v (most / 128)) (Number v (at + 1 + k)) (Fault (at + 1)))
+        cond (leb (low + v * 128) most) (got (low + v * 128) (at + suc k)) (no_number at) ≡
+        onto low most at (cond (leb v (most / 128)) (got v (at + 1 + k)) (no_number (at + 1)))
     by true e = let p : at + suc k ≡ at + 1 + k = omega arith in rw (e, p)
     by false e = rw (e, lt-leb (low + v * 128) most (omega (arith, leb-false v (most / 128) e)))
 
-pub limited-most : (most at : ℕ) (d : Decoded) (v past : ℕ) → limited most at d ≡ Number v past → v ≤ most
+limited_most : (most at : ℕ) (d : Decoded) (v past : ℕ) → limited most at d ≡ got v past → v ≤ most
 unfolding limited
-limited-most most at fault v past e = absurd (not-number e)
-limited-most most at (number w k) v past e = by (leb w most) refl
+limited_most most at fault v past e = absurd (not-number e)
+limited_most most at (number w k) v past e = by (leb w most) refl
   where
     by : (b : Bool) → leb w most ≡ b → v ≤ most
     by true p = let q : w ≡ v = number_got (rw p at e) in omega (arith, leb-true w most p)
@@ -118,7 +126,7 @@ limited-most most at (number w k) v past e = by (leb w most) refl
 
 -- the ways in which the code reads a group at an offset
 module _ (bs : List ℕ) (at most : ℕ) (first : Bool) (g : ℕ) where
-  pub read_none : length bs ≤ at → Fault at ≡ limited most at (decoded (suc g) first (drop at bs))
+  pub read_none : length bs ≤ at → no_number at ≡ limited most at (decoded (suc g) first (drop at bs))
   unfolding decoded limited
   read_none h = sym (ap (λ (l : List ℕ). limited most at (decoded (suc g) first l)) (drop_of_length-le bs h))
 
@@ -130,12 +138,12 @@ module _ (bs : List ℕ) (at most : ℕ) (first : Bool) (g : ℕ) where
 
   -- the last group: the number, where it is shortest and no larger than the most
   pub read_last : at < length bs → get_or bs at 0 < 128 → (first || ltb 0 (get_or bs at 0)) ≡ true →
-      limited most at (decoded (suc g) first (drop at bs)) ≡ cond (leb (get_or bs at 0) most) (Number (get_or bs at 0) (at + 1)) (Fault at)
+      limited most at (decoded (suc g) first (drop at bs)) ≡ cond (leb (get_or bs at 0) most) (got (get_or bs at 0) (at + 1)) (no_number at)
   unfolding limited
   read_last l h e = there (number (get_or bs at 0) 1) l (decoded_last g (get_or bs at 0) first (drop (at + 1) bs) h e)
 
   pub read_long : at < length bs → get_or bs at 0 < 128 → (first || ltb 0 (get_or bs at 0)) ≡ false →
-      limited most at (decoded (suc g) first (drop at bs)) ≡ Fault at
+      limited most at (decoded (suc g) first (drop at bs)) ≡ no_number at
   unfolding limited
   read_long l h e = there fault l (decoded_long g (get_or bs at 0) first (drop (at + 1) bs) h e)
 
@@ -148,13 +156,13 @@ module _ (bs : List ℕ) (at most : ℕ) (first : Bool) (g : ℕ) where
       limited-above (get_or bs at 0 - 128) most at (decoded g false (drop (at + 1) bs)) (omega arith)
 
   -- which is at least 128 in all
-  pub read_small : at < length bs → 128 ≤ get_or bs at 0 → most < 128 → limited most at (decoded (suc g) first (drop at bs)) ≡ Fault at
+  pub read_small : at < length bs → 128 ≤ get_or bs at 0 → most < 128 → limited most at (decoded (suc g) first (drop at bs)) ≡ no_number at
   unfolding limited above
   read_small l h k =
       there (above (get_or bs at 0 - 128) (decoded g false (drop (at + 1) bs))) l (decoded_more g (get_or bs at 0) first (drop (at + 1) bs) h) ∙
       by (decoded g false (drop (at + 1) bs)) refl
     where
-      by : (d : Decoded) → decoded g false (drop (at + 1) bs) ≡ d → limited most at (above (get_or bs at 0 - 128) (decoded g false (drop (at + 1) bs))) ≡ Fault at
+      by : (d : Decoded) → decoded g false (drop (at + 1) bs) ≡ d → limited most at (above (get_or bs at 0 - 128) (decoded g false (drop (at + 1) bs))) ≡ no_number at
       by fault e = ap (λ (d : Decoded). limited most at (above (get_or bs at 0 - 128) d)) e
       by (number v j) e =
           ap (λ (d : Decoded). limited most at (above (get_or bs at 0 - 128) d)) e ∙
@@ -168,3 +176,9 @@ pub read_above : (bs : List ℕ) (at most : ℕ) (first : Bool) (g : ℕ) (r : G
 read_above bs at most first zero r l h k m n e = absurd (omega arith)
 read_above bs at most first (suc j) r l h k m n e =
     read_more bs at most first (suc j) l h k ∙ ap (onto (get_or bs at 0 - 128) most at) (sym (e j (omega arith)))
+
+-- what was read above a group is within its limit
+pub above_most : (bs : List ℕ) (at most : ℕ) (r : Got) (v past : ℕ) → most / 128 < 128 ^ 5 →
+    ((j : ℕ) → most / 128 < 128 ^ suc j → r ≡ limited (most / 128) (at + 1) (decoded (suc j) false (drop (at + 1) bs))) →
+    r ≡ got v past → v ≤ most / 128
+above_most bs at most r v past h e k = limited_most (most / 128) (at + 1) (decoded 5 false (drop (at + 1) bs)) v past (sym (e 4 h) ∙ k)

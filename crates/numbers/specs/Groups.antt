@@ -1,10 +1,9 @@
 -- Record 1, 6: a number in bytes. A byte holds seven of its bits, lowest bits first, and a byte with its top bit set says that one more
 -- follows. Of the ways to write a number so, only the shortest is one.
-use Rattle.std.specs.Prelude.{List, [], ◌∷◌, Bool, true, false, ◌||◌, cond, ℕ, zero, suc, ◌+◌, ◌-◌, ◌*◌, ◌/◌, ◌%◌, leb, ltb, length, drop}
+use Rattle.std.specs.Prelude.{List, [], ◌∷◌, Bool, true, false, ◌||◌, cond, ℕ, zero, suc, ◌+◌, ◌-◌, ◌*◌, ◌/◌, ◌%◌, leb, ltb, length, drop, Result, Ok, Err}
 use Rattle.std.proofs.lemmas.List.Edits.{sets}
 use Rattle.lists.specs.Places.{each}
-use Rattle.numbers.specs.declared.Got.{Got}
-use Rattle.numbers.specs.declared.Got.TheVariants.{Number, Fault}
+use Rattle.numbers.specs.declared.Fault.{Fault}
 
 -- Record 1: each is a byte
 abbrev pub bytes : List ℕ → Bool
@@ -43,10 +42,22 @@ decoded zero first bs = fault
 decoded (suc g) first [] = fault
 decoded (suc g) first (b ∷ bs) = cond (ltb b 128) (cond (first || ltb 0 b) (number b 1) fault) (above (b - 128) (decoded g false bs))
 
+-- Record 6: a number with the offset past it, or a fault
+abbrev pub Got : Type 0
+Got = Result (ℕ × ℕ) Fault
+
+-- Record 6: a number that was read, with the offset past it
+abbrev pub got : ℕ → ℕ → Got
+got v past = Ok (v, past)
+
+-- Record 6: a fault, which is at its place
+abbrev pub no_number : ℕ → Got
+no_number place = Err (record { place = place })
+
 -- Record 6: a number within its field's limit; an unfinished one, one with a needless byte and one above the limit are faults at their first byte
 unfoldable pub limited : ℕ → ℕ → Decoded → Got
-limited most at (number v k) = cond (leb v most) (Number v (at + k)) (Fault at)
-limited most at fault = Fault at
+limited most at (number v k) = cond (leb v most) (got v (at + k)) (no_number at)
+limited most at fault = no_number at
 
 -- Record 1, 6: the number at an offset of the bytes, for a field of which so much is the most
 unfoldable pub read_number : ℕ → List ℕ → ℕ → Got

@@ -1,10 +1,12 @@
 // Samples 1 and 2, of the code: they hold by the contracts of `read_number` and `write_number` alone.
 ghost use Rattle.std.specs.Prelude.{◌≡◌, [], ◌∷◌};
-ghost use Rattle.numbers.specs.declared.Got.TheVariants.{Number, Fault};
+ghost use Rattle.numbers.specs.Groups.{got, no_number};
 
-use crate::{Got, read_number, write_number};
+use crate::{Fault, read_number, write_number};
 
-const MOST: u32 = 4294967295;
+type Got = Result<(u32, usize), Fault>;
+
+const MOST: u32 = u32::MAX;
 
 #[derive(Clone, Copy)]
 struct Read {
@@ -16,14 +18,15 @@ struct Read {
     larger: Got,
 }
 
+#[tactic(auto, unfolding(crate::specs::Groups::read_number, crate::specs::Groups::limited, crate::specs::Groups::decoded, crate::specs::Groups::above))]
 fn samples_read() -> Read
     ensures { result ≡ record {
-      n127 = Number 127 1;
-      n128 = Number 128 2;
-      n300 = Number 300 2;
-      longer = Fault 0;
-      largest = Number 4294967295 5;
-      larger = Fault 0;
+      n127 = got 127 1;
+      n128 = got 128 2;
+      n300 = got 300 2;
+      longer = no_number 0;
+      largest = got 4294967295 5;
+      larger = no_number 0;
     } }
 {
     Read {
@@ -44,6 +47,7 @@ struct Written {
     largest: [u8; 5],
 }
 
+#[tactic(auto, unfolding(crate::specs::Groups::put_bytes, crate::specs::Groups::encoded))]
 fn samples_written() -> Written
     ensures { result ≡ record { n127 = 0x7F ∷ []; n128 = 0x80 ∷ 0x01 ∷ []; n300 = 0xAC ∷ 0x02 ∷ []; largest = 0xFF ∷ 0xFF ∷ 0xFF ∷ 0xFF ∷ 0x0F ∷ [] } }
 {
@@ -56,9 +60,9 @@ fn samples_written() -> Written
     write_number(&mut n300, 0, 300);
     write_number(&mut largest, 0, MOST);
     Written {
-        n127: n127,
-        n128: n128,
-        n300: n300,
-        largest: largest,
+        n127,
+        n128,
+        n300,
+        largest,
     }
 }

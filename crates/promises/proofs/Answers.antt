@@ -21,7 +21,6 @@ use Rattle.model.specs.declared.SiteQueue.{SiteQueue}
 use Rattle.model.specs.declared.System.{System}
 use Rattle.model.specs.declared.Action.{Action}
 use Rattle.model.specs.declared.After.{After}
-use Rattle.model.specs.declared.Outcome.{Outcome}
 use Rattle.model.specs.declared.Instruction.{Instruction}
 use Rattle.model.specs.declared.Step.{Step}
 use Rattle.model.specs.declared.Answer.{Answer}
@@ -43,6 +42,7 @@ use Rattle.promises.proofs.Took.{entry_below}
 use Rattle.promises.proofs.Rows.{Row, load_hit, store_hit, fetches, not-cached, commit-clean, reconcile_dirty, drops, writes_kept, writes_dropped, waits_full, waits-pending, Settling, removes, evicts, settling, Taking, loaded, stored, committed, reconciled, voluntarily, taking}
 use Rattle.promises.proofs.Quiet.{Idle}
 use Rattle.promises.proofs.Stepping.{Admitted, Stepping, refusing, fenced, stalling, handling, resuming, sending, arriving, serving, returning, reaching, tooking, stepping, issued_place, head_place, taker, reply_at, entry_at, head_kind}
+use Rattle.model.specs.Results.{Outcome}
 
 -- OUTSTANDING
 

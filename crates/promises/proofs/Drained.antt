@@ -12,7 +12,6 @@ use Rattle.model.specs.declared.System.{System}
 use Rattle.model.specs.declared.Step.{Step}
 use Rattle.model.specs.declared.Refusal.{Refusal}
 use Rattle.model.specs.declared.Refusal.TheVariants.{NotSound, BufferShort}
-use Rattle.model.specs.declared.Outcome.TheVariants.{Refused}
 use Rattle.model.specs.Limits.{most_drain}
 use Rattle.model.specs.Sound.{sound}
 use Rattle.model.specs.Record.{steps_bytes}
@@ -22,6 +21,7 @@ use Rattle.promises.proofs.Sound.{Sound, opened}
 use Rattle.promises.proofs.Drain.{Leaves, drained_leaves, drained-bytes}
 use Rattle.promises.proofs.ReadBack.{steps_back}
 use Rattle.promises.proofs.Writes.{sets_kept}
+use Rattle.std.specs.Prelude.{Err}
 
 -- THE STEPS WRITTEN
 
@@ -46,7 +46,7 @@ drained-read s t b buf k = rw (T_true (sound s) t, le-leb (2 * min b most_drain)
 
 -- THE REST OF THE BUFFER
 
-refusal_same : (s : System) (buf : List ℕ) (r q : Refusal) → (drain_gives (undrained r s) buf).result.outcome ≡ Refused q →
+refusal_same : (s : System) (buf : List ℕ) (r q : Refusal) → (drain_gives (undrained r s) buf).result.outcome ≡ Err q →
     ((drain_gives (undrained r s) buf).result.system ≡ s) × ((drain_gives (undrained r s) buf).buffer ≡ buf)
 refusal_same s buf r q e = (refl, refl)
 

@@ -3,34 +3,34 @@ use mathlib.Core.Path.{◌≡◌, refl, ap}
 use mathlib.Core.List.{List, [], ◌∷◌}
 use Prim.Native.Nat.{ℕ, zero, suc, ◌≤◌}
 use lib.ListN.{length}
-use Rattle.numbers.specs.declared.Got.{Got}
-use Rattle.numbers.specs.declared.Got.TheVariants.{Number, Fault}
 use Rattle.numbers.specs.Groups.{read_number}
 use Rattle.numbers.proofs.Found.{Found, NumberSays, number-says}
 use Rattle.model.specs.Record.{most_number, Numbers, numbers, fault_at, consed, read_numbers}
+use Rattle.std.specs.Prelude.{Ok, Err}
+use Rattle.numbers.specs.Groups.{Got, got}
 
 -- A NUMBER
 
-pub found : (bs : List ℕ) (at : ℕ) {v next : ℕ} → read_number most_number bs at ≡ Number v next → Found most_number bs at v next
+pub found : (bs : List ℕ) (at : ℕ) {v next : ℕ} → read_number most_number bs at ≡ got v next → Found most_number bs at v next
 found bs at e = rw e at (number-says most_number bs at)
 
 -- what holds where a reader goes on from a number, and where it stops at a fault, holds of what it gives
 pub by_number : {A : Type 0} (P : A → Type 0) (bs : List ℕ) (at : ℕ) (on : ℕ → ℕ → A) (stop : ℕ → A) →
-    ((v next : ℕ) → read_number most_number bs at ≡ Number v next → P (on v next)) → P (stop at) →
-    P (elim (read_number most_number bs at) as (λ (r : Got). A) [ Number v next ↦ on v next | Fault place ↦ stop place ])
+    ((v next : ℕ) → read_number most_number bs at ≡ got v next → P (on v next)) → P (stop at) →
+    P (elim (read_number most_number bs at) as (λ (r : Got). A) [ Ok (v, next) ↦ on v next | Err fault ↦ stop fault.place ])
 by_number {A} P bs at on stop if-on if-stop = go (read_number most_number bs at) refl (number-says most_number bs at)
   where
     go : (r : Got) → read_number most_number bs at ≡ r → NumberSays most_number bs at r →
-        P (elim r as (λ (q : Got). A) [ Number v next ↦ on v next | Fault place ↦ stop place ])
-    go (Number v next) e h = if-on v next e
-    go (Fault place) e h = rw h if-stop
+        P (elim r as (λ (q : Got). A) [ Ok (v, next) ↦ on v next | Err fault ↦ stop fault.place ])
+    go (Ok (v, next)) e h = if-on v next e
+    go (Err fault) e h = rw h if-stop
 
 -- NUMBERS
 
 -- the numbers are read from an offset on, one behind the other, and end at another
 pub data InTurn (bs : List ℕ) : ℕ → List ℕ → ℕ → Type 0 where
   no_more : {at : ℕ} → InTurn bs at [] at
-  one_more : {at v next : ℕ} {vs : List ℕ} {end : ℕ} → read_number most_number bs at ≡ Number v next → InTurn bs next vs end → InTurn bs at (v ∷ vs) end
+  one_more : {at v next : ℕ} {vs : List ℕ} {end : ℕ} → read_number most_number bs at ≡ got v next → InTurn bs next vs end → InTurn bs at (v ∷ vs) end
 
 -- the largest limit, so many times
 unfoldable pub mosts : ℕ → List ℕ
@@ -48,6 +48,6 @@ numbers_say zero bs at = (refl, no_more)
 numbers_say (suc n) bs at =
     by_number (NumbersSay (suc n) bs at) bs at _ _ (λ v next e. go v next e (read_numbers (mosts n) bs next) (numbers_say n bs next)) (λ l. l)
   where
-    go : (v next : ℕ) → read_number most_number bs at ≡ Number v next → (r : Numbers) → NumbersSay n bs next r → NumbersSay (suc n) bs at (consed v r)
+    go : (v next : ℕ) → read_number most_number bs at ≡ got v next → (r : Numbers) → NumbersSay n bs next r → NumbersSay (suc n) bs at (consed v r)
     go v next e (numbers vs end) h = (ap suc h.0, one_more e h.1)
     go v next e (fault_at place) h = λ l. h (found bs at e).inside

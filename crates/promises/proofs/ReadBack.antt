@@ -11,7 +11,6 @@ use lib.Seq.{drop-drop, drop-append_seam}
 use borrow.Author.Tests.{le-leb, eq-eqb, ne_eqb}
 use Rattle.lists.specs.Places.{each}
 use Rattle.lists.proofs.Tests.{and_l, and_r, T_true}
-use Rattle.numbers.specs.declared.Got.TheVariants.{Number}
 use Rattle.numbers.specs.Groups.{bytes_of, limited, read_number}
 use Rattle.numbers.proofs.Codec.{read-written}
 use Rattle.model.specs.declared.Sizes.{Sizes}
@@ -19,7 +18,6 @@ use Rattle.model.specs.declared.Instruction.{Instruction}
 use Rattle.model.specs.declared.Instruction.TheVariants.{Loadl, Storel, Commit, Reconcile, FenceRr, FenceRw, FenceWr, FenceWw}
 use Rattle.model.specs.declared.Step.{Step}
 use Rattle.model.specs.declared.Step.TheVariants.{Issue, Retry, Send, ArriveMemory, Serve, SendBack, ArriveSite, Take}
-use Rattle.model.specs.declared.ReadStep.TheVariants.{One}
 use Rattle.model.specs.Given.{most_bytes}
 use Rattle.model.specs.Limits.{in_limits}
 use Rattle.model.specs.Issue.{kind_of}
@@ -29,6 +27,8 @@ use Rattle.promises.specs.Promises.{RecordRead}
 use Rattle.promises.proofs.InTurn.{InTurn, no_more, one_more, mosts}
 use Rattle.promises.proofs.Readers.{step_within}
 use Rattle.promises.proofs.Sound.{Limits, limits}
+use Rattle.model.specs.Results.{one}
+use Rattle.numbers.specs.Groups.{got}
 
 -- NUMBERS
 
@@ -37,7 +37,7 @@ behind : (bs new rest : List ℕ) (at : ℕ) → drop at bs ≡ new ++ rest → 
 behind bs new rest at e = sym (drop-drop (length new) at bs) ∙ ap (drop (length new)) e ∙ drop-append_seam new rest
 
 number_back : (bs rest : List ℕ) (at v : ℕ) → v ≤ most_number → drop at bs ≡ bytes_of v ++ rest →
-    read_number most_number bs at ≡ Number v (at + length (bytes_of v))
+    read_number most_number bs at ≡ got v (at + length (bytes_of v))
 unfolding read_number limited
 number_back bs rest at v l e = rw (e, read-written 4 v true rest (omega arith) refl, le-leb v most_number l)
 
@@ -77,7 +77,7 @@ coded t (FenceRw a b) = record { kind = refl; limits = refl; same = refl }
 coded t (FenceWr a b) = record { kind = refl; limits = refl; same = refl }
 coded t (FenceWw a b) = record { kind = refl; limits = refl; same = refl }
 
-step_back : (bs : List ℕ) (at next : ℕ) (x : Step) → InTurn bs at (numbers_of x) next → step_at bs at ≡ One x next
+step_back : (bs : List ℕ) (at next : ℕ) (x : Step) → InTurn bs at (numbers_of x) next → step_at bs at ≡ one x next
 unfolding numbers_of step_at read_fields read_issue issue_from read_move move_of
 step_back bs at next (Issue i t n) (one_more e (one_more f (one_more {next = mid} g r))) =
     let c : Coded t n = coded t n in cc (numbers_list bs mid (t ∷ operands n) next r)

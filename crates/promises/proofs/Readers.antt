@@ -9,16 +9,10 @@ use lib.Dec.{T, leb, eqb, leb→le, nleb→lt, eqb→eq}
 use lib.ListN.{length, get_or}
 use Rattle.lists.proofs.Long.{placed, by_places}
 use Rattle.lists.proofs.Tests.{by_cond}
-use Rattle.numbers.specs.declared.Got.{Got}
-use Rattle.numbers.specs.declared.Got.TheVariants.{Number, Fault}
 use Rattle.numbers.specs.Groups.{read_number}
 use Rattle.model.specs.declared.Sizes.{Sizes}
 use Rattle.model.specs.declared.Step.{Step}
 use Rattle.model.specs.declared.Step.TheVariants.{Issue, Retry, Send, ArriveMemory, Serve, SendBack, ArriveSite, Take}
-use Rattle.model.specs.declared.ReadStep.{ReadStep}
-use Rattle.model.specs.declared.ReadStep.TheVariants.{One, End, NoStep}
-use Rattle.model.specs.declared.ReadSizes.{ReadSizes}
-use Rattle.model.specs.declared.ReadSizes.TheVariants.{Sized, NoSizes}
 use Rattle.model.specs.declared.Refusal.TheVariants.{NoRecord, SizeOutside}
 use Rattle.model.specs.Given.{most_bytes}
 use Rattle.model.specs.Limits.{in_limits}
@@ -27,6 +21,9 @@ use Rattle.model.specs.Issue.{kind_of}
 use Rattle.model.specs.Record.{most_number, six_of, operands, numbers_of, Numbers, numbers, fault_at, read_numbers, sizes_of, sizes_from, read_sizes, issue_limits, instruction_of, issue_from, read_issue, move_of, read_move, read_fields, step_at, read_step_of, read_step}
 use Rattle.promises.specs.Promises.{Faulty, too_long, fault_at, SizesFault}
 use Rattle.promises.proofs.InTurn.{found, by_number, InTurn, no_more, one_more, mosts, NumbersSay, numbers_say}
+use Rattle.std.specs.Prelude.{Ok, Err, Some, None}
+use Rattle.model.specs.Results.{ReadSizes, ReadStep, sized, one}
+use Rattle.numbers.specs.Groups.{Got, got}
 
 -- SIZES
 
@@ -37,8 +34,8 @@ pub record SizesRead (bs : List ℕ) (z : Sizes) (past : ℕ) : Type 0 where
   pub six : InTurn bs 0 (six_of z) past
 
 abbrev SizesSay : List ℕ → ReadSizes → Type 0
-SizesSay bs (Sized z past) = SizesRead bs z past
-SizesSay bs (NoSizes r) = (r ≡ SizeOutside) ⊎ Faulty bs r
+SizesSay bs (Ok (z, past)) = SizesRead bs z past
+SizesSay bs (Err r) = (r ≡ SizeOutside) ⊎ Faulty bs r
 
 sizes_say : (bs : List ℕ) → SizesSay bs (read_sizes bs)
 unfolding read_sizes sizes_from placed mosts
@@ -51,7 +48,7 @@ sizes_say bs =
         by_cond (SizesSay bs) (in_limits (sizes_of vs)) _ _ (λ t. record { short = l; limits = t; six = rw (by_places 6 vs 0 h.0) h.1 }) (λ t. inl refl)
     go l (fault_at place) h = inr (fault_at place (h (omega arith)))
 
-pub sizes-read : (bs : List ℕ) {z : Sizes} {past : ℕ} → read_sizes bs ≡ Sized z past → SizesRead bs z past
+pub sizes-read : (bs : List ℕ) {z : Sizes} {past : ℕ} → read_sizes bs ≡ sized z past → SizesRead bs z past
 sizes-read bs e = rw e at (sizes_say bs)
 
 pub sizes_faulty : SizesFault
@@ -96,9 +93,9 @@ issue_numbers =
 
 -- what a step's answer says of the bytes
 abbrev StepSays : List ℕ → ℕ → ReadStep → Type 0
-StepSays bs at (One x next) = InTurn bs at (numbers_of x) next
-StepSays bs at End = at ≡ length bs
-StepSays bs at (NoStep r) = at ≤ length bs → Faulty bs r
+StepSays bs at (Ok (Some (x, next))) = InTurn bs at (numbers_of x) next
+StepSays bs at (Ok None) = at ≡ length bs
+StepSays bs at (Err r) = at ≤ length bs → Faulty bs r
 
 module _ (bs : List ℕ) (at : ℕ) where
   -- the tag and the operands, behind an instruction's number
@@ -113,7 +110,7 @@ module _ (bs : List ℕ) (at : ℕ) where
       go (numbers vs end) h = rw (issue_numbers k t i vs h.0) (lead vs end h.1)
       go (fault_at place) h = λ m. fault_at place (h l)
 
-  issue_says : (next : ℕ) → read_number most_number bs at ≡ Number 0 next → StepSays bs at (read_issue bs next)
+  issue_says : (next : ℕ) → read_number most_number bs at ≡ got 0 next → StepSays bs at (read_issue bs next)
   unfolding read_issue
   issue_says next e =
       by_number (StepSays bs at) bs next _ _
@@ -125,14 +122,14 @@ module _ (bs : List ℕ) (at : ℕ) where
       (λ l. fault_at next (found bs at e).inside)
 
   -- a step of one field
-  field_says : (k : ℕ) (make : ℕ → Step) → ((v : ℕ) → numbers_of (make v) ≡ k ∷ v ∷ []) → (next : ℕ) → read_number most_number bs at ≡ Number k next →
+  field_says : (k : ℕ) (make : ℕ → Step) → ((v : ℕ) → numbers_of (make v) ≡ k ∷ v ∷ []) → (next : ℕ) → read_number most_number bs at ≡ got k next →
       StepSays bs at
-      (elim (read_number most_number bs next) as (λ (r : Got). ReadStep) [ Fault place ↦ NoStep (NoRecord place) | Number v end ↦ One (make v) end ])
+      (elim (read_number most_number bs next) as (λ (r : Got). ReadStep) [ Err fault ↦ Err (NoRecord fault.place) | Ok (v, end) ↦ one (make v) end ])
   field_says k make m next e =
       by_number (StepSays bs at) bs next _ _ (λ v end f. rw (m v) (one_more e (one_more f no_more))) (λ l. fault_at next (found bs at e).inside)
 
   abbrev FieldsSay : ℕ → Type 0
-  FieldsSay k = (next : ℕ) → read_number most_number bs at ≡ Number k next → StepSays bs at (cond (eqb k 0) (read_issue bs next) (read_move bs k next))
+  FieldsSay k = (next : ℕ) → read_number most_number bs at ≡ got k next → StepSays bs at (cond (eqb k 0) (read_issue bs next) (read_move bs k next))
 
   fields_say : (k : ℕ) → T (leb k 7) → FieldsSay k
   unfolding read_move move_of numbers_of
@@ -149,7 +146,7 @@ module _ (bs : List ℕ) (at : ℕ) where
       (λ l. fault_at at l)))
       (λ t l. too_long (nleb→lt (length bs) most_bytes t))
 
-  pub step_numbers_lem : {x : Step} {next : ℕ} → read_step bs at ≡ One x next → InTurn bs at (numbers_of x) next
+  pub step_numbers_lem : {x : Step} {next : ℕ} → read_step bs at ≡ one x next → InTurn bs at (numbers_of x) next
   step_numbers_lem e = rw e at step_says
 
 -- WITHIN THE BYTES

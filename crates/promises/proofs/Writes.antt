@@ -19,12 +19,12 @@ use Rattle.model.specs.declared.Sizes.{Sizes}
 use Rattle.model.specs.declared.Step.{Step}
 use Rattle.model.specs.declared.Refusal.{Refusal}
 use Rattle.model.specs.declared.Refusal.TheVariants.{BufferShort, SizeOutside, RecordLong}
-use Rattle.model.specs.declared.Wrote.TheVariants.{Past, NotWritten}
 use Rattle.model.specs.Given.{most_bytes}
 use Rattle.model.specs.Limits.{in_limits}
 use Rattle.model.specs.Record.{bytes_of_all, six_of, numbers_of, sizes_bytes, step_bytes, steps_bytes, record_of, written, put_at, written_at, write_sizes, write_step}
 use Rattle.promises.specs.Reading.{write_steps, write_record}
 use Rattle.promises.specs.Promises.{RecordBytes, Kept, WriteKeeps}
+use Rattle.std.specs.Prelude.{Ok, Err}
 
 -- BYTES
 
@@ -44,14 +44,14 @@ all_bytes z xs = each_append _ (sizes_bytes z) (steps_bytes xs) (numbers-bytes (
 -- ONE BEHIND THE OTHER
 
 pub written_at_lem : (new buf : List ℕ) (at : ℕ) → at + length new ≤ most_bytes → at + length new ≤ length buf →
-    written_at new buf at ≡ written (Past (at + length new)) (sets buf at new)
+    written_at new buf at ≡ written (Ok (at + length new)) (sets buf at new)
 unfolding written_at put_at
 written_at_lem new buf at m l = rw (le-leb (at + length new) most_bytes m, le-leb (at + length new) (length buf) l)
 
 -- the steps, behind some bytes
 steps-written : (xs : List Step) (new buf : List ℕ) (at : ℕ) →
     at + length (new ++ steps_bytes xs) ≤ most_bytes → at + length (new ++ steps_bytes xs) ≤ length buf →
-    write_steps xs (written_at new buf at) ≡ written (Past (at + length (new ++ steps_bytes xs))) (sets buf at (new ++ steps_bytes xs))
+    write_steps xs (written_at new buf at) ≡ written (Ok (at + length (new ++ steps_bytes xs))) (sets buf at (new ++ steps_bytes xs))
 unfolding write_steps write_step flat_map
 steps-written [] new buf at m l = rw append-nil (written_at_lem new buf at (rw append-nil at m) (rw append-nil at l))
 steps-written (x ∷ xs) new buf at m l =
@@ -61,17 +61,17 @@ steps-written (x ∷ xs) new buf at m l =
     (steps-written xs (step_bytes x) (sets buf at new) (at + length new) (omega arith) (omega (arith, length-sets buf at new)))
 
 pub record_put : (z : Sizes) (xs : List Step) (buf : List ℕ) → T (in_limits z) → length (record_of z xs) ≤ most_bytes → length (record_of z xs) ≤ length buf →
-    write_record z xs buf ≡ written (Past (length (record_of z xs))) (record_of z xs ++ drop (length (record_of z xs)) buf)
+    write_record z xs buf ≡ written (Ok (length (record_of z xs))) (record_of z xs ++ drop (length (record_of z xs)) buf)
 unfolding write_sizes
 record_put z xs buf t m l =
     rw (T_true (in_limits z) t, steps-written xs (sizes_bytes z) buf 0 (omega arith) (omega arith), sets-eq (record_of z xs) buf 0 (omega arith), zero-add)
 
 -- THE OTHER BYTES
 
-refusal_same : (buf : List ℕ) (r s : Refusal) → (written (NotWritten r) buf).wrote ≡ NotWritten s → (written (NotWritten r) buf).buffer ≡ buf
+refusal_same : (buf : List ℕ) (r s : Refusal) → (written (Err r) buf).wrote ≡ Err s → (written (Err r) buf).buffer ≡ buf
 refusal_same buf r s e = refl
 
-pub refusal_kept : (at : ℕ) (buf : List ℕ) (r : Refusal) → Kept at buf (written (NotWritten r) buf)
+pub refusal_kept : (at : ℕ) (buf : List ℕ) (r : Refusal) → Kept at buf (written (Err r) buf)
 refusal_kept at buf r = record { length_kept = refl; refused_kept = refusal_same buf r; others_kept = λ end i e h. refl }
 
 -- a place before them, or past them

@@ -13,11 +13,6 @@ use Rattle.model.specs.declared.Step.{Step}
 use Rattle.model.specs.declared.Refusal.{Refusal}
 use Rattle.model.specs.declared.Refusal.TheVariants.{NoRecord, SizeOutside, RecordLong}
 use Rattle.model.specs.declared.Answer.TheVariants.{Nothing}
-use Rattle.model.specs.declared.Outcome.{Outcome}
-use Rattle.model.specs.declared.Outcome.TheVariants.{Refused}
-use Rattle.model.specs.declared.ReadSizes.TheVariants.{Sized, NoSizes}
-use Rattle.model.specs.declared.ReadStep.TheVariants.{One}
-use Rattle.model.specs.declared.Wrote.TheVariants.{Past, NotWritten}
 use Rattle.model.specs.Limits.{in_limits, may_be_fresh, most_drain}
 use Rattle.model.specs.Fresh.{fresh_of, blank}
 use Rattle.model.specs.Parts.{site_at}
@@ -29,6 +24,8 @@ use Rattle.model.specs.Replay.{sizes_line, listing}
 use Rattle.model.specs.Drain.{candidates_of, quiet, drained, Drain, drain_of}
 use Rattle.promises.specs.Reading.{recordable, Ending, whole, broken, Reading, ReadsAs, Read, lines_of, write_record}
 use Rattle.promises.specs.Runs.{after_run, accepted, is_move, issues_trip, issues_reconcile, same_move, events, free, alternate, is_issued, is_answered}
+use Rattle.std.specs.Prelude.{Ok, Err}
+use Rattle.model.specs.Results.{Outcome, sized, one}
 
 -- GIVEN BACK
 
@@ -43,7 +40,7 @@ pub record Unanswered (o : Outcome) : Type 0 where
   pub site : (given o).site ≡ 0
   pub tag : (given o).tag ≡ 0
   pub value : (given o).value ≡ 0
-  pub ten : (place : ℕ) → o ≡ Refused (NoRecord place) → (given o).place ≡ place
+  pub ten : (place : ℕ) → o ≡ Err (NoRecord place) → (given o).place ≡ place
   pub others : ((given o).number ≡ 10) ⊎ ((given o).place ≡ cond (eqb (given o).number 13) most_bytes 0)
 
 -- Numbers 17: a refusal answers no processor.
@@ -178,7 +175,7 @@ DrainTaken =
 -- what a drain leaves alone: the buffer's length; the bytes past what it wrote; and, where it is refused, the state and every byte
 pub record DrainKept (s : System) (buf : List ℕ) (d : Drain) : Type 0 where
   pub length_kept : length d.buffer ≡ length buf
-  pub refused_kept : (r : Refusal) → d.result.outcome ≡ Refused r → (d.result.system ≡ s) × (d.buffer ≡ buf)
+  pub refused_kept : (r : Refusal) → d.result.outcome ≡ Err r → (d.result.system ≡ s) × (d.buffer ≡ buf)
   pub others_kept : (i : ℕ) → d.result.length ≤ i → get_or d.buffer i 0 ≡ get_or buf i 0
 
 -- Numbers 17 and Drain 6, of the drain: from any state, sound or not.
@@ -242,11 +239,11 @@ ReadOnce = (bs : List ℕ) (at : ℕ) (xs ys : List Step) (e f : Ending) → Rea
 
 -- Reading goes forward and stays within the bytes: past the sizes,
 abbrev pub SizesOn : Type 0
-SizesOn = (bs : List ℕ) (z : Sizes) (past : ℕ) → read_sizes bs ≡ Sized z past → past ≤ length bs
+SizesOn = (bs : List ℕ) (z : Sizes) (past : ℕ) → read_sizes bs ≡ sized z past → past ≤ length bs
 
 -- and past each step. So it ends,
 abbrev pub ReadOn : Type 0
-ReadOn = (bs : List ℕ) (at next : ℕ) (x : Step) → read_step bs at ≡ One x next → (at < next) × (next ≤ length bs)
+ReadOn = (bs : List ℕ) (at next : ℕ) (x : Step) → read_step bs at ≡ one x next → (at < next) × (next ≤ length bs)
 
 -- as a record, or with a refusal.
 abbrev pub ReadAnswered : Type 0
@@ -259,7 +256,7 @@ pub data Faulty (bs : List ℕ) : Refusal → Type 0 where
 
 -- Demand 2: bytes that are no record are refused so. The reader of sizes does it, unless a size is outside its limits;
 abbrev pub SizesFault : Type 0
-SizesFault = (bs : List ℕ) (r : Refusal) → read_sizes bs ≡ NoSizes r → (r ≡ SizeOutside) ⊎ Faulty bs r
+SizesFault = (bs : List ℕ) (r : Refusal) → read_sizes bs ≡ Err r → (r ≡ SizeOutside) ⊎ Faulty bs r
 
 -- or the reader of steps does.
 abbrev pub ReadFault : Type 0
@@ -269,8 +266,8 @@ ReadFault = (bs : List ℕ) (at : ℕ) (xs : List Step) (r : Refusal) → at ≤
 -- or 10
 pub data Verdict (bs : List ℕ) : Type 0 where
   good : (z : Sizes) (xs : List Step) → Recorded bs z xs → Verdict bs
-  bad_sizes : (r : Refusal) → read_sizes bs ≡ NoSizes r → (r ≡ SizeOutside) ⊎ Faulty bs r → Verdict bs
-  bad_step : (z : Sizes) (past : ℕ) (xs : List Step) (r : Refusal) → read_sizes bs ≡ Sized z past → Reading bs past xs (broken r) → Faulty bs r → Verdict bs
+  bad_sizes : (r : Refusal) → read_sizes bs ≡ Err r → (r ≡ SizeOutside) ⊎ Faulty bs r → Verdict bs
+  bad_step : (z : Sizes) (past : ℕ) (xs : List Step) (r : Refusal) → read_sizes bs ≡ sized z past → Reading bs past xs (broken r) → Faulty bs r → Verdict bs
 
 -- Demand 2, closed: there is such a verdict on every string of bytes.
 abbrev pub AllBytes : Type 0
@@ -280,13 +277,13 @@ AllBytes = (bs : List ℕ) → T (bytes bs) → Verdict bs
 abbrev pub RecordWritten : Type 0
 RecordWritten =
     (z : Sizes) (xs : List Step) (buf : List ℕ) → T (in_limits z) → length (record_of z xs) ≤ most_bytes → length (record_of z xs) ≤ length buf →
-    write_record z xs buf ≡ written (Past (length (record_of z xs))) (record_of z xs ++ drop (length (record_of z xs)) buf)
+    write_record z xs buf ≡ written (Ok (length (record_of z xs))) (record_of z xs ++ drop (length (record_of z xs)) buf)
 
 -- what a write at an offset leaves alone: everything where it is refused, else all bytes but its own
 pub record Kept (at : ℕ) (before : List ℕ) (after : Written) : Type 0 where
   pub length_kept : length after.buffer ≡ length before
-  pub refused_kept : (r : Refusal) → after.wrote ≡ NotWritten r → after.buffer ≡ before
-  pub others_kept : (end i : ℕ) → after.wrote ≡ Past end → (i < at) ⊎ (end ≤ i) → get_or after.buffer i 0 ≡ get_or before i 0
+  pub refused_kept : (r : Refusal) → after.wrote ≡ Err r → after.buffer ≡ before
+  pub others_kept : (end i : ℕ) → after.wrote ≡ Ok end → (i < at) ⊎ (end ≤ i) → get_or after.buffer i 0 ≡ get_or before i 0
 
 -- Numbers 17, of the writers of sizes and of a step.
 abbrev pub WriteKeeps : Type 0
@@ -298,7 +295,7 @@ WriteKeeps =
 -- Replay 2: the sizes, the steps that were read and the ending have a line each; none is missed.
 abbrev pub ListingWhole : Type 0
 ListingWhole =
-    (bs : List ℕ) (z : Sizes) (past : ℕ) (xs : List Step) (e : Ending) → read_sizes bs ≡ Sized z past → Reading bs past xs e →
+    (bs : List ℕ) (z : Sizes) (past : ℕ) (xs : List Step) (e : Ending) → read_sizes bs ≡ sized z past → Reading bs past xs e →
     listing bs ≡ sizes_line z ++ lines_of 1 (blank z) xs e
 
 -- ALL OF IT

@@ -5,12 +5,11 @@ use Rattle.model.specs.declared.Sizes.{Sizes}
 use Rattle.model.specs.declared.System.{System}
 use Rattle.model.specs.declared.Step.{Step}
 use Rattle.model.specs.declared.Refusal.{Refusal}
-use Rattle.model.specs.declared.ReadSizes.TheVariants.{Sized, NoSizes}
-use Rattle.model.specs.declared.ReadStep.TheVariants.{One, End, NoStep}
-use Rattle.model.specs.declared.Wrote.TheVariants.{Past, NotWritten}
 use Rattle.model.specs.Steps.{stepped}
 use Rattle.model.specs.Replay.{left_of, record_line, step_and}
 use Rattle.model.specs.Record.{most_number, numbers_of, read_sizes, read_step, Written, write_sizes, write_step}
+use Rattle.std.specs.Prelude.{Ok, Err}
+use Rattle.model.specs.Results.{sized, one, no_more}
 
 -- each is a number of a record
 abbrev pub in_range : List ℕ → Bool
@@ -29,21 +28,21 @@ pub data Ending : Type 0 where
 
 -- reading one step behind the other, from an offset on, gives the steps and ends so
 pub data Reading (bs : List ℕ) : ℕ → List Step → Ending → Type 0 where
-  ended : (at : ℕ) → read_step bs at ≡ End → Reading bs at [] whole
-  stopped : (at : ℕ) (r : Refusal) → read_step bs at ≡ NoStep r → Reading bs at [] (broken r)
-  further : (at next : ℕ) (x : Step) (xs : List Step) (e : Ending) → read_step bs at ≡ One x next → Reading bs next xs e → Reading bs at (x ∷ xs) e
+  ended : (at : ℕ) → read_step bs at ≡ no_more → Reading bs at [] whole
+  stopped : (at : ℕ) (r : Refusal) → read_step bs at ≡ Err r → Reading bs at [] (broken r)
+  further : (at next : ℕ) (x : Step) (xs : List Step) (e : Ending) → read_step bs at ≡ one x next → Reading bs next xs e → Reading bs at (x ∷ xs) e
 
 -- the bytes are read as sizes and steps to the end
 pub record ReadsAs (bs : List ℕ) (z : Sizes) (xs : List Step) : Type 0 where
   pub past : ℕ
-  pub sizes : read_sizes bs ≡ Sized z past
+  pub sizes : read_sizes bs ≡ sized z past
   pub steps : Reading bs past xs whole
 
 -- what comes of reading some bytes: they are a record, or their sizes are refused, or one of their steps is
 pub data Read (bs : List ℕ) : Type 0 where
   as_record : (z : Sizes) (xs : List Step) → ReadsAs bs z xs → Read bs
-  sizes_refused : (r : Refusal) → read_sizes bs ≡ NoSizes r → Read bs
-  step_refused : (z : Sizes) (past : ℕ) (xs : List Step) (r : Refusal) → read_sizes bs ≡ Sized z past → Reading bs past xs (broken r) → Read bs
+  sizes_refused : (r : Refusal) → read_sizes bs ≡ Err r → Read bs
+  step_refused : (z : Sizes) (past : ℕ) (xs : List Step) (r : Refusal) → read_sizes bs ≡ sized z past → Reading bs past xs (broken r) → Read bs
 
 -- LISTING
 
@@ -58,7 +57,7 @@ lines_of n s (x ∷ xs) e = step_and n x (stepped s x) (λ t. lines_of (suc n) t
 -- the steps, each where the write before it ended; a refusal ends it
 unfoldable pub write_steps : List Step → Written → Written
 write_steps [] w = w
-write_steps (x ∷ xs) w = elim w.wrote [ Past at ↦ write_steps xs (write_step x w.buffer at) | NotWritten r ↦ w ]
+write_steps (x ∷ xs) w = elim w.wrote [ Ok at ↦ write_steps xs (write_step x w.buffer at) | Err r ↦ w ]
 
 abbrev pub write_record : Sizes → List Step → List ℕ → Written
 write_record z xs buf = write_steps xs (write_sizes z buf)

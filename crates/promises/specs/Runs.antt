@@ -8,11 +8,11 @@ use Rattle.model.specs.declared.Step.{Step}
 use Rattle.model.specs.declared.Step.TheVariants.{Issue, Retry, Send, ArriveMemory, Serve, SendBack, ArriveSite, Take}
 use Rattle.model.specs.declared.Answer.{Answer}
 use Rattle.model.specs.declared.Answer.TheVariants.{Nothing, Loaded, Acknowledged}
-use Rattle.model.specs.declared.Outcome.{Outcome}
 use Rattle.model.specs.Kinds.{loadl, reconcile}
 use Rattle.model.specs.Issue.{kind_of}
 use Rattle.model.specs.Steps.{stepped, is_done, answer_of}
 use Rattle.model.specs.Record.{numbers_of}
+use Rattle.model.specs.Results.{Outcome, one}
 
 -- the system after the steps
 unfoldable pub after_run : System → List Step → System

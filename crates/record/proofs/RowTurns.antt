@@ -1,42 +1,25 @@
 -- A row gone through one number at a time, as the code writes and reads it.
 use mathlib.Core.Path.{◌≡◌, refl, ap, sym, ◌∙◌}
 use mathlib.Core.List.{List, [], ◌∷◌, ◌++◌, append_assoc, append-nil, flat_map}
-use Prim.Native.Nat.{ℕ, suc, ◌+◌, ◌-◌, ◌≤◌, ◌<◌}
+use Prim.Native.Nat.{ℕ, ◌+◌, ◌-◌, ◌≤◌, ◌<◌}
 use native.Mathlib.Numerals.{add-one}
 use native.Mathlib.Omega.{arith}
-use lib.ListN.{length, get_or, set, take, drop, length-append, length-take, drop_of_length-le}
-use lib.Seq.{sets, length-sets, take-suc, take-suc-set, take-add, drop-cons, get_or-take, length-take-le}
+use lib.ListN.{length, get_or, set, take, drop, length-append, length-set, drop_of_length-le}
+use lib.Seq.{sets, length-sets, take-suc, take-suc-set, take-add, drop-cons, take_all}
 use Rattle.lists.proofs.Counts.{flat_append}
 use Rattle.lists.proofs.Stores.{sets_append}
-use Rattle.numbers.specs.declared.Got.TheVariants.{Number, Fault}
 use Rattle.numbers.specs.Groups.{bytes_of, read_number, Put, put_to, put_bytes}
-use Rattle.numbers.proofs.Grouped.{put_there}
-use Rattle.numbers.proofs.Found.{fault-place}
-use Rattle.model.specs.declared.Sizes.{Sizes}
-use Rattle.model.specs.declared.Step.{Step}
-use Rattle.model.specs.Record.{bytes_of_all, six_of, sizes_bytes, numbers_of, step_bytes, Numbers, numbers, fault_at, consed, read_numbers}
-use Rattle.codes.specs.declared.rows.Row.{Row}
-use Rattle.codes.specs.Row.{row_of}
-use Rattle.codes.proofs.Held.{row_holds_lem, numbers_six}
-use Rattle.record.specs.Rows.{listed}
-
--- THE ROW OF SIZES, OR OF A STEP
-
-module _ (z : Sizes) (row : Row) (e : row ≡ row_of (six_of z)) where
-  pub sizes_six : row.count ≤ 6
-  sizes_six = rw e (omega arith)
-
-  pub sizes-bytes : bytes_of_all (listed row) ≡ sizes_bytes z
-  sizes-bytes = ap bytes_of_all (rw e)
-
-module _ (x : Step) (row : Row) (e : row ≡ row_of (numbers_of x)) where
-  pub step_six : row.count ≤ 6
-  step_six = rw e (numbers_six x)
-
-  pub step_bytes_lem : bytes_of_all (listed row) ≡ step_bytes x
-  step_bytes_lem = ap bytes_of_all (rw e (row_holds_lem (numbers_of x) (numbers_six x)))
+use Rattle.numbers.proofs.Grouped.{bytes_most, put_there}
+use Rattle.numbers.specs.declared.Fault.{Fault}
+use Rattle.model.specs.Record.{bytes_of_all, Numbers, numbers, fault_at, consed, read_numbers}
+use Rattle.std.specs.Prelude.{Ok, Err}
+use Rattle.numbers.specs.Groups.{got}
 
 -- WRITING
+
+pub no_bytes : bytes_of_all [] ≡ []
+unfolding flat_map
+no_bytes = refl
 
 pub bytes_turn : (ns : List ℕ) (i : ℕ) → i < length ns → bytes_of_all (take (i + 1) ns) ≡ bytes_of_all (take i ns) ++ bytes_of (get_or ns i 0)
 unfolding flat_map
@@ -67,6 +50,9 @@ put_turn l done new at past buf p e f h =
     rw (q, r) (put_there new (sets l at done) (at + length done) (omega (arith, h, s, length-sets l at done))) in
     f ∙ t ∙ rw (s, sets_append done new l at)
 
+-- how long the bytes are, one number more
+pub ruleset lengths = (no_bytes, bytes_turn, bytes_most, length-append)
+
 -- READING
 
 -- numbers read before others
@@ -83,32 +69,30 @@ unfolding consed
 one_prepended vs v (numbers ws past) = ap (λ (l : List ℕ). numbers l past) (append_assoc vs (v ∷ []) ws)
 one_prepended vs v (fault_at place) = refl
 
-module _ (bs ms ns : List ℕ) (n i place : ℕ) where
-  opened : i < n → n ≤ length ms → drop i (take n ms) ≡ get_or ms i 0 ∷ drop (i + 1) (take n ms)
-  opened h k =
-      drop-cons (take n ms) i 0 (omega (arith, length-take-le n ms k)) ∙ ap (λ (v : ℕ). v ∷ drop (suc i) (take n ms)) (get_or-take n ms i 0 h) ∙
-      ap (λ (j : ℕ). get_or ms i 0 ∷ drop j (take n ms)) (sym (add-one i))
-
-  left_is : i < n → n ≤ length ms → read_numbers (drop i (take n ms)) bs place ≡
-      elim (read_number (get_or ms i 0) bs place) [ Number v next ↦ consed v (read_numbers (drop (i + 1) (take n ms)) bs next) | Fault p ↦ fault_at p ]
+module _ (bs ms ns : List ℕ) (i place : ℕ) where
+  left_is : i < length ms → read_numbers (drop i ms) bs place ≡
+      elim (read_number (get_or ms i 0) bs place) [ Ok (v, next) ↦ consed v (read_numbers (drop (i + 1) ms) bs next) | Err fault ↦ fault_at fault.place ]
   unfolding read_numbers
-  left_is h k = ap (λ (l : List ℕ). read_numbers l bs place) (opened h k)
+  left_is h =
+      ap (λ (l : List ℕ). read_numbers l bs place)
+      (drop-cons ms i 0 h ∙ ap (λ (j : ℕ). get_or ms i 0 ∷ drop j ms) (sym (add-one i)))
 
   -- one more number was read
-  pub read_turn : (v past : ℕ) → i < n → n ≤ length ms → i < length ns → read_number (get_or ms i 0) bs place ≡ Number v past →
-      prepended (take (i + 1) (set ns i v)) (read_numbers (drop (i + 1) (take n ms)) bs past) ≡ prepended (take i ns) (read_numbers (drop i (take n ms)) bs place)
+  pub read_turn : (v past : ℕ) → i < length ms → i < length ns → read_number (get_or ms i 0) bs place ≡ got v past →
+      prepended (take (i + 1) (set ns i v)) (read_numbers (drop (i + 1) ms) bs past) ≡ prepended (take i ns) (read_numbers (drop i ms) bs place)
   unfolding read_numbers
-  read_turn v past h k l e =
-      ap (λ (vs : List ℕ). prepended vs (read_numbers (drop (i + 1) (take n ms)) bs past))
+  read_turn v past h l e =
+      ap (λ (vs : List ℕ). prepended vs (read_numbers (drop (i + 1) ms) bs past))
       (ap (λ (j : ℕ). take j (set ns i v)) (add-one i) ∙ take-suc-set ns i v l) ∙
-      one_prepended (take i ns) v (read_numbers (drop (i + 1) (take n ms)) bs past) ∙ ap (prepended (take i ns)) (sym (rw e at (left_is h k)))
+      one_prepended (take i ns) v (read_numbers (drop (i + 1) ms) bs past) ∙ ap (prepended (take i ns)) (sym (rw e at (left_is h)))
 
-  pub read_fault : (p : ℕ) → i < n → n ≤ length ms → read_number (get_or ms i 0) bs place ≡ Fault p →
-      fault_at place ≡ prepended (take i ns) (read_numbers (drop i (take n ms)) bs place)
-  read_fault p h k e = ap fault_at (sym (fault-place (get_or ms i 0) bs place p e)) ∙ ap (prepended (take i ns)) (sym (rw e at (left_is h k)))
+  pub read_fault : (fault : Fault) → i < length ms → read_number (get_or ms i 0) bs place ≡ Err fault →
+      fault_at fault.place ≡ prepended (take i ns) (read_numbers (drop i ms) bs place)
+  read_fault fault h e = ap (prepended (take i ns)) (sym (rw e at (left_is h)))
 
-  pub read-end : n ≤ i → i ≤ n → numbers (take n ns) place ≡ prepended (take i ns) (read_numbers (drop i (take n ms)) bs place)
+  pub read_end : i ≡ length ms → i ≡ length ns → numbers ns place ≡ prepended (take i ns) (read_numbers (drop i ms) bs place)
   unfolding read_numbers
-  read-end h k =
-      let p : i ≡ n = omega arith in
-      rw (drop_of_length-le (take n ms) {i = i} (omega (arith, length-take n ms)), p, append-nil (take n ns))
+  read_end h k = rw (drop_of_length-le ms {i = i} (omega arith), append-nil (take i ns), take_all i ns (omega arith))
+
+-- a row read, one number more
+pub ruleset reading = (none_prepended, read_turn, read_fault, read_end, length-set)

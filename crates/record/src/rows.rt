@@ -3,95 +3,78 @@ ghost use Rattle.std.specs.Prelude.{◌≡◌, ◌+◌, ◌≤◌, length};
 ghost use Rattle.std.proofs.lemmas.List.Edits.{sets};
 ghost use Rattle.numbers.specs.Groups.{put_to};
 ghost use Rattle.model.specs.Record.{bytes_of_all, read_numbers, written, written_at};
-ghost use Rattle.record.specs.Rows.{listed, read_as};
+ghost use Rattle.record.specs.Rows.{read_as, room_in};
 
 use codes::rows::Row;
 use model::{MOST_BYTES, Refusal, Wrote};
-use numbers::{Got, number_length, read_number, write_number};
+use numbers::{Fault, number_length, read_number, write_number};
 
-// Numbers read, with the offset past them; or, where one is broken, its place.
-#[derive(Clone, Copy)]
-pub struct RowRead {
-    pub numbers: [u32; 6],
-    pub place: usize,
-    pub broken: bool,
-}
-
-// A number for each limit.
-pub(crate) fn read_row(bytes: &[u8], at: usize, limits: Row) -> RowRead
-    requires { limits.count ≤ 6 }
-    ensures { read_as limits.count result ≡ read_numbers (listed limits) bytes.now at }
+// A number for each limit, with the offset past them.
+#[tactic(auto, using(std::proofs::lemmas::Result::err_from_is_err_and, crate::proofs::RowTurns::reading))]
+pub(crate) fn read_row<const N: usize>(
+    bytes: &[u8],
+    at: usize,
+    limits: [u32; N],
+) -> Result<([u32; N], usize), Fault>
+    ensures { read_as result ≡ read_numbers limits.entry bytes.now at }
 {
-    let most = limits.numbers;
-    let count = limits.count;
-    let mut numbers: [u32; 6] = [0; 6];
-    let mut place = at;
-    let mut i: usize = 0;
-    while i < count {
-        let got = read_number(bytes, place, most[i]);
-        let Got::Number(n, past) = got else {
-            return RowRead {
-                numbers: numbers,
-                place: place,
-                broken: true,
-            };
-        };
+    let mut numbers = [0; N];
+    let mut past = at;
+    for i in 0..N {
+        let (n, next) = read_number(bytes, past, limits[i])?;
         numbers[i] = n;
-        place = past;
-        i += 1;
+        past = next;
     }
-    RowRead {
-        numbers: numbers,
-        place: place,
-        broken: false,
-    }
+    Ok((numbers, past))
 }
 
 // How many bytes the numbers take.
-pub(crate) fn row_length(row: Row) -> usize
-    requires { row.count ≤ 6 }
-    ensures value { result ≡ length (bytes_of_all (listed row)) }
+#[tactic(auto, using(crate::proofs::RowTurns::lengths))]
+pub(crate) fn row_length(row: &Row) -> usize
+    ensures value { result ≡ length (bytes_of_all row.now) }
     ensures small { result ≤ 30 }
 {
-    let numbers = row.numbers;
-    let count = row.count;
-    let mut size: usize = 0;
-    let mut i: usize = 0;
-    while i < count {
-        size += number_length(numbers[i]);
-        i += 1;
+    let mut size = 0;
+    for n in row.as_slice() {
+        size += number_length(*n);
     }
     size
 }
 
 // Writes the numbers where they have room, and gives the offset past them.
-pub(crate) fn put_row(buf: &mut [u8], at: usize, row: Row) -> usize
-    requires { (row.count ≤ 6) × (at + length (bytes_of_all (listed row)) ≤ length buf.old) }
-    ensures { put_to result buf.new ≡ put_to (at + length (bytes_of_all (listed row))) (sets buf.old at (bytes_of_all (listed row))) }
+pub(crate) fn put_row(buf: &mut [u8], at: usize, row: &Row) -> usize
+    requires { at + length (bytes_of_all row.now) ≤ length buf.old }
+    ensures { put_to result buf.new ≡ put_to (at + length (bytes_of_all row.now)) (sets buf.old at (bytes_of_all row.now)) }
 {
-    let numbers = row.numbers;
-    let count = row.count;
     let mut past = at;
-    let mut i: usize = 0;
-    while i < count {
-        past = write_number(buf, past, numbers[i]);
-        i += 1;
+    for n in row.as_slice() {
+        past = write_number(buf, past, *n);
     }
     past
 }
 
-// Writes the numbers at an offset, or nothing: 13 where they would make the record too long, 11 where they do not fit into the buffer.
-pub(crate) fn write_row(buf: &mut [u8], at: usize, row: Row) -> Wrote
-    requires { row.count ≤ 6 }
-    ensures { written result buf.new ≡ written_at (bytes_of_all (listed row)) buf.old at }
+// The offset past so many bytes: 13 where they would make the record too long, 11 where they do not fit into the
+// buffer.
+#[tactic(auto, unfolding(crate::specs::Rows::room_in))]
+pub(crate) fn room(len: usize, at: usize, size: usize) -> Result<usize, Refusal>
+    ensures { result ≡ room_in len at size }
 {
-    let size = row_length(row);
-    if MOST_BYTES - size < at {
-        return Wrote::NotWritten(Refusal::RecordLong);
+    let past = at.saturating_add(size);
+    if MOST_BYTES < past {
+        return Err(Refusal::RecordLong);
     }
-    if buf.len() < at + size {
-        return Wrote::NotWritten(Refusal::BufferShort);
+    if len < past {
+        return Err(Refusal::BufferShort);
     }
-    let past = put_row(buf, at, row);
-    Wrote::Past(past)
+    Ok(past)
+}
+
+// Writes the numbers at an offset, or nothing: 13 where they would make the record too long, 11 where they do not fit
+// into the buffer.
+#[tactic(auto, unfolding(model::specs::Record::written_at, model::specs::Record::put_at, crate::specs::Rows::room_in))]
+pub(crate) fn write_row(buf: &mut [u8], at: usize, row: &Row) -> Wrote
+    ensures { written result buf.new ≡ written_at (bytes_of_all row.now) buf.old at }
+{
+    room(buf.len(), at, row_length(row))?;
+    Ok(put_row(buf, at, row))
 }

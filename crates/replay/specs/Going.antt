@@ -1,45 +1,29 @@
 -- How far a listing is.
-use Rattle.std.specs.Prelude.{◌≡◌, ◌⊎◌, List, [], ◌++◌, true, false, ℕ, ◌+◌, ◌≤◌, ◌<◌, length, take}
-use Rattle.model.specs.declared.ReadStep.{ReadStep}
-use Rattle.model.specs.declared.ReadStep.TheVariants.{One, End, NoStep}
-use Rattle.model.specs.declared.Sizes.{Sizes}
+use Rattle.std.specs.Prelude.{List, [], ◌++◌, ℕ, suc, ◌+◌, ◌-◌, ◌<◌, length, take, Option, Some, None, Ok, Err}
 use Rattle.model.specs.declared.System.{System}
-use Rattle.model.specs.Fresh.{blank, no_sizes}
-use Rattle.model.specs.Sound.{sound}
+use Rattle.model.specs.Results.{ReadStep}
 use Rattle.model.specs.Replay.{left_of, record_line, listed_at}
-use Rattle.replay.specs.declared.Listed.{Listed}
+use Rattle.replay.specs.declared.going.Going.{Going}
 
--- the line behind the last step, where none was read; where one was, it is not asked for
+-- the line behind the last step, where no step was read: what is left, or the fault
 unfoldable pub last_line : ReadStep → System → List ℕ
-last_line End s = left_of s
-last_line (NoStep why) s = record_line why
-last_line (One x next) s = left_of s
+last_line (Ok step) s = left_of s
+last_line (Err why) s = record_line why
 
 -- what is still to be listed
-unfoldable pub to_list : List ℕ → Listed → List ℕ
-to_list bs l = elim l.ended [ true ↦ [] | false ↦ listed_at bs l.at (l.count + 1) l.system ]
+abbrev pub to_list : List ℕ → Option Going → List ℕ
+to_list bs None = []
+to_list bs (Some g) = listed_at bs g.at (g.count + 1) g.system
 
--- what stands in the buffer, and behind it what is still to be listed
-abbrev pub in_all : List ℕ → List ℕ → Listed → List ℕ
-in_all bs buf l = take l.length buf ++ to_list bs l
+-- what stands in the buffer, in so many bytes, and behind it what is still to be listed
+abbrev pub in_all : List ℕ → List ℕ → ℕ × Option Going → List ℕ
+in_all bs buf l = take l.0 buf ++ to_list bs l.1
 
--- the first line stands in the buffer
-pub record First (first buf : List ℕ) (l : Listed) : Type 0 where
-  pub there : take l.length buf ≡ first
-  pub within : l.length ≤ length buf
+-- how many parts may come yet
+abbrev pub parts_left : List ℕ → Option Going → ℕ
+parts_left bs None = 0
+parts_left bs (Some g) = suc (length bs - g.at)
 
--- of sizes that are refused it is the only one
-abbrev pub refused_sizes : ℕ → Listed
-refused_sizes length = record { system = blank no_sizes; at = 0; count = 0; length = length; ended = true }
-
--- else a fresh system has every step of the record before it
-abbrev pub begun_with : Sizes → ℕ → ℕ → Listed
-begun_with z past length = record { system = blank z; at = past; count = 0; length = length; ended = false }
-
--- it can go on: unless it has ended its system is sound, so that a step need not look; and a step takes a byte at least
-abbrev pub Going : Listed → Type 0
-Going l = ((l.ended ≡ true) ⊎ (sound l.system ≡ true)) × (l.count ≤ l.at)
-
--- it went on: the last line was written, or some step's
-abbrev pub Further : List ℕ → Listed → Listed → Type 0
-Further bs before l = (l.ended ≡ true) ⊎ ((before.at < l.at) × (l.at ≤ length bs))
+-- it went on: the last line was written, or some step's, which took a byte at least
+abbrev pub Further : List ℕ → Going → Option Going → Type 0
+Further bs from rest = parts_left bs rest < parts_left bs (Some from)

@@ -1,6 +1,5 @@
-pub mod Halves
+pub mod InUse
 pub mod Site
-pub mod Tags
 pub mod Once
 pub mod Table
 pub mod Pairing

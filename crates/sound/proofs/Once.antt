@@ -1,4 +1,5 @@
--- Where every entry has its one message, no message is without an entry if and only if there are as many messages as entries.
+-- Where every entry has its one message, no message is without an entry
+-- if and only if there are as many messages as entries.
 use mathlib.Core.Path.{◌≡◌, refl, sym, ◌∙◌, subst}
 use mathlib.Core.List.{List, [], ◌∷◌}
 use mathlib.Core.Bool.{Bool, true, not, ◌&&◌}

@@ -58,14 +58,14 @@ name_is i e m h k h' k' = same_test (eqb (message_name m) (name_at i e.line (tri
 
 -- THE TABLE
 
-pub tallied-append : (xs ys : List Message) (t : List ℕ) → tallied (xs ++ ys) t ≡ tallied ys (tallied xs t)
+pub tallied_append : (xs ys : List Message) (t : List ℕ) → tallied (xs ++ ys) t ≡ tallied ys (tallied xs t)
 unfolding tallied
-tallied-append [] ys t = refl
-tallied-append (m ∷ xs) ys t = tallied-append xs ys (counted t m)
+tallied_append [] ys t = refl
+tallied_append (m ∷ xs) ys t = tallied_append xs ys (counted t m)
 
 pub tallied_turn : (xs : List Message) (i : ℕ) (d : Message) (t : List ℕ) → i < length xs → tallied (take (i + 1) xs) t ≡ counted (tallied (take i xs) t) (get_or xs i d)
 unfolding tallied
-tallied_turn xs i d t h = rw (add-one, take-suc xs i d h) (tallied-append (take i xs) (get_or xs i d ∷ []) t)
+tallied_turn xs i d t h = rw (add-one, take-suc xs i d h) (tallied_append (take i xs) (get_or xs i d ∷ []) t)
 
 -- what stands there for n messages
 mark : ℕ → ℕ

@@ -1,118 +1,106 @@
-// What must differ at a site (Parts 9f, 9g, 9h): the lines of its pend entries, the tags outstanding, and the lines cached from those pending.
-ghost use Rattle.std.specs.Prelude.{◌≡◌, ◌≤◌};
+// What must differ at a site (Parts 9f, 9g, 9h): the lines of its pend entries, the tags outstanding,
+// and the lines cached from those pending. The entries and the waiting instructions here are those in use.
+ghost use Rattle.std.specs.Prelude.{◌≡◌, Bool, ◌&&◌, length};
+ghost use Rattle.std.specs.Fn.{FnReturnsAtPair};
 ghost use Rattle.lists.specs.Places.{each_of, none_of, unlike};
 ghost use Rattle.model.specs.declared.Waiting.{Waiting};
 ghost use Rattle.model.specs.Sets.{cached};
 ghost use Rattle.model.specs.Sound.{cached_apart, lines_differ, pends_under, same_tag, same_pend_tag, tags_differ};
 
-use model::{Cache, Pends, Sizes, Stalls};
+use model::{CacheSet, Entry, Sizes, Waiting};
+use state::kinds::VOLUNTARY;
 use state::sets::{holds, seat, set_number};
-use state::{pends, stalls};
+
+// No two of the items are alike.
+#[tactic(auto, unfolding(lists::specs::Places::unlike))]
+fn unlike<T, S: Fn(&T, &T) -> bool>(items: &[T], same: S) -> bool
+    requires { S.IsAlwaysCallable same }
+    ensures { (p : T → T → Bool) → ((x : T) (y : T) (r : Bool) → FnReturnsAtPair S.Fn same x y r → r ≡ p x y) →
+        result ≡ unlike p (length items.now) items.now }
+{
+    let mut rest = items;
+    while let Some((first, others)) = rest.split_first() {
+        if others.iter().any(|other| same(first, other)) {
+            return false;
+        }
+        rest = others;
+    }
+    true
+}
 
 // A line pends at most once (Parts 9g).
-pub(crate) fn lines_differ(p: Pends) -> bool
-    requires { p.count ≤ 5 }
-    ensures { result ≡ lines_differ p.count p.entries }
+fn lines_differ(entries: &[Entry]) -> bool
+    ensures { result ≡ lines_differ (length entries.now) entries.now }
 {
-    let n = p.count as usize;
-    let mut ok = true;
-    let mut i: usize = 0;
-    while i < n {
-        let e = p.entries[i];
-        let here = pends::no_line(p, i, e.line);
-        ok = ok & here;
-        i += 1;
-    }
-    ok
+    unlike(entries, |a, b| a.line == b.line)
 }
 
 // No two waiting instructions have one tag.
-fn waits_differ(t: Stalls) -> bool
-    requires { t.count ≤ 8 }
-    ensures { result ≡ unlike same_tag t.count t.waiting }
+fn waits_differ(waiting: &[Waiting]) -> bool
+    ensures { result ≡ unlike same_tag (length waiting.now) waiting.now }
 {
-    let n = t.count as usize;
-    let mut ok = true;
-    let mut i: usize = 0;
-    while i < n {
-        let w = t.waiting[i];
-        let here = stalls::no_tag(t, i, w.tag);
-        ok = ok & here;
-        i += 1;
-    }
-    ok
+    unlike(waiting, |a, b| a.tag == b.tag)
 }
 
 // No two entries, but voluntary ones, have one tag.
-fn pends_differ(p: Pends) -> bool
-    requires { p.count ≤ 5 }
-    ensures { result ≡ unlike same_pend_tag p.count p.entries }
+fn pends_differ(entries: &[Entry]) -> bool
+    ensures { result ≡ unlike same_pend_tag (length entries.now) entries.now }
 {
-    let n = p.count as usize;
-    let mut ok = true;
-    let mut i: usize = 0;
-    while i < n {
-        let e = p.entries[i];
-        let here = pends::no_tag(p, i, e.tag);
-        ok = ok & ((e.kind == 4) | here);
-        i += 1;
-    }
-    ok
+    unlike(
+        entries,
+        |a, b| a.kind != VOLUNTARY && b.kind != VOLUNTARY && a.tag == b.tag,
+    )
+}
+
+// No entry has the tag, voluntary ones aside.
+fn tag_free(entries: &[Entry], tag: u32) -> bool
+    ensures { result ≡ none_of (pends_under tag) (length entries.now) entries.now }
+{
+    !entries.iter().any(|e| e.kind != VOLUNTARY && e.tag == tag)
 }
 
 // No stalled instruction has the tag of an entry, voluntary ones aside.
-fn tags_apart(p: Pends, t: Stalls) -> bool
-    requires few_entries { p.count ≤ 5 }
-    requires few_waiting { t.count ≤ 8 }
-    ensures { result ≡ each_of (λ (w : Waiting). none_of (pends_under w.tag) p.count p.entries) t.count t.waiting }
+fn tags_apart(entries: &[Entry], waiting: &[Waiting]) -> bool
+    ensures { result ≡ each_of (λ (w : Waiting). none_of (pends_under w.tag) (length entries.now) entries.now) (length waiting.now) waiting.now }
 {
-    let n = p.count as usize;
-    let k = t.count as usize;
-    let mut ok = true;
-    let mut i: usize = 0;
-    while i < k {
-        let w = t.waiting[i];
-        let here = pends::no_tag(p, n, w.tag);
-        ok = ok & here;
-        i += 1;
-    }
-    ok
+    waiting.iter().all(|w| tag_free(entries, w.tag))
 }
 
 // A site uses no tag twice at a time (Parts 9h).
-pub(crate) fn tags_differ(p: Pends, t: Stalls) -> bool
-    requires few_entries { p.count ≤ 5 }
-    requires few_waiting { t.count ≤ 8 }
-    ensures { result ≡ tags_differ p.count p.entries t.count t.waiting }
+#[tactic(auto, unfolding(model::specs::Sound::tags_differ))]
+fn tags_differ(entries: &[Entry], waiting: &[Waiting]) -> bool
+    ensures { result ≡ tags_differ (length entries.now) entries.now (length waiting.now) waiting.now }
 {
-    waits_differ(t) & pends_differ(p) & tags_apart(p, t)
+    waits_differ(waiting) && pends_differ(entries) && tags_apart(entries, waiting)
 }
 
 // The line is cached.
-fn is_cached(z: Sizes, c: Cache, line: u8) -> bool
-    ensures { result ≡ cached z c.sets line }
+#[tactic(auto, using(std::proofs::lemmas::List::get_or_past), unfolding(model::specs::Sets::seat))]
+fn is_cached(z: &Sizes, sets: &[CacheSet; 8], line: u8) -> bool
+    ensures { result ≡ cached z.now sets.now line }
 {
-    let k = set_number(z, line) as usize;
-    if 8 <= k {
-        return false;
+    match sets.get(set_number(*z, line) as usize) {
+        Some(set) => holds(seat(*set, line), line),
+        None => false,
     }
-    let set = c.sets[k];
-    holds(seat(set, line), line)
 }
 
 // A line that pends is not in the cache (Parts 9f).
-pub(crate) fn cached_apart(z: Sizes, c: Cache, p: Pends) -> bool
-    requires { p.count ≤ 5 }
-    ensures { result ≡ cached_apart z c.sets p.count p.entries }
+fn cached_apart(z: &Sizes, sets: &[CacheSet; 8], entries: &[Entry]) -> bool
+    ensures { result ≡ cached_apart z.now sets.now (length entries.now) entries.now }
 {
-    let n = p.count as usize;
-    let mut ok = true;
-    let mut i: usize = 0;
-    while i < n {
-        let e = p.entries[i];
-        let there = is_cached(z, c, e.line);
-        ok = ok & !there;
-        i += 1;
-    }
-    ok
+    !entries.iter().any(|e| is_cached(z, sets, e.line))
+}
+
+// Lines and tags differ as they must.
+pub(crate) fn all_differ(
+    z: &Sizes,
+    sets: &[CacheSet; 8],
+    entries: &[Entry],
+    waiting: &[Waiting],
+) -> bool
+    ensures { result ≡ (cached_apart z.now sets.now (length entries.now) entries.now && lines_differ (length entries.now) entries.now &&
+        tags_differ (length entries.now) entries.now (length waiting.now) waiting.now) }
+{
+    cached_apart(z, sets, entries) && lines_differ(entries) && tags_differ(entries, waiting)
 }

@@ -1,17 +1,20 @@
-// Whether a state is sound (Parts 9, 10): each part of it fits, and its pend entries and messages belong together one to one.
+// Whether a state is sound (Parts 9, 10): each part of it fits, and its pend entries and messages belong together
+// one to one. Near: a site's two queues; far: the networks and memory's queues.
 #![tactic(auto)]
 
-ghost use Rattle.std.specs.Prelude.{◌≡◌};
-ghost use Rattle.model.specs.Sound.{sound};
+ghost use Rattle.std.specs.Prelude.{◌≡◌, replicate};
+ghost use Rattle.model.specs.Sound.{parts_fit, sound, under_way};
+ghost use Rattle.promises.proofs.Room.{message_count};
+ghost use Rattle.sound.specs.Naming.{tallied};
 
+use crate::arrays::first;
 use crate::memory::memory_fits;
-use crate::messages::far_fits;
+use crate::messages::{Side, far_fits};
 use crate::sites::sites_fit;
-use crate::under_way::{
-    all_named, entry_count, far_count, far_named, near_count, none_named, sites_named,
-};
+use crate::under_way::{Names, entry_count, near_count};
 use model::System;
 
+mod arrays;
 mod differ;
 mod entries;
 mod memory;
@@ -21,38 +24,53 @@ mod sites;
 mod under_way;
 mod words;
 
-// The state is sound. Its parts are taken out once, so that no function copies the whole of it.
-pub fn is_sound(s: System) -> bool
-    ensures { result ≡ sound s }
+// Each part of the state fits.
+fn parts_fit(s: &System) -> bool
+    ensures { result ≡ parts_fit s.now }
 {
-    let z = s.sizes;
-    let memory = s.memory;
-    let caches = s.caches;
-    let pends = s.pends;
-    let stalls = s.stalls;
-    let outgoing = s.outgoing;
-    let incoming = s.incoming;
-    let up = s.up;
-    let arrived = s.arrived;
-    let served = s.served;
-    let down = s.down;
-    let parts = z.fit()
-        & memory_fits(z, memory)
-        & sites_fit(z, caches, pends, stalls, outgoing, incoming)
-        & far_fits(z, false, up)
-        & far_fits(z, false, arrived)
-        & far_fits(z, true, served)
-        & far_fits(z, true, down);
-    if !parts {
+    s.sizes.fit()
+        && memory_fits(&s.sizes, &s.memory)
+        && sites_fit(s)
+        && far_fits(&s.sizes, Side::Requests, &s.up)
+        && far_fits(&s.sizes, Side::Requests, &s.arrived)
+        && far_fits(&s.sizes, Side::Replies, &s.served)
+        && far_fits(&s.sizes, Side::Replies, &s.down)
+}
+
+// The messages under way and how many have each name.
+fn named(s: &System) -> Names
+    ensures { result.of ≡ tallied (under_way s.now) (replicate 128 0) }
+{
+    let mut names = Names::none();
+    names.count_near(&s.outgoing, &s.incoming);
+    names.count(first(&s.up.items, s.up.count));
+    names.count(first(&s.arrived.items, s.arrived.count));
+    names.count(first(&s.served.items, s.served.count));
+    names.count(first(&s.down.items, s.down.count));
+    names
+}
+
+// How many messages are under way.
+fn message_count(s: &System) -> usize
+    ensures { result ≡ message_count s.now }
+{
+    near_count(&s.outgoing) as usize
+        + near_count(&s.incoming) as usize
+        + s.up.count as usize
+        + s.arrived.count as usize
+        + s.served.count as usize
+        + s.down.count as usize
+}
+
+// The state is sound.
+#[tactic(auto, unfolding(model::specs::Sound::sound))]
+pub fn is_sound(s: &System) -> bool
+    ensures { result ≡ sound s.now }
+{
+    if !parts_fit(s) {
         return false;
     }
-    let near = sites_named(outgoing, incoming, none_named());
-    let with_up = far_named(up, near);
-    let with_arrived = far_named(arrived, with_up);
-    let with_served = far_named(served, with_arrived);
-    let all = far_named(down, with_served);
-    let ok = all_named(pends, z.sites, all);
-    let messages = near_count(outgoing, incoming)
-        + far_count(up.count, arrived.count, served.count, down.count);
-    ok & (messages == entry_count(pends, z.sites))
+    let sites = s.sizes.sites;
+    named(s).fit(&s.pends, sites)
+        && message_count(s) == entry_count(first(&s.pends, sites)) as usize
 }

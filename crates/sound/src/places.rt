@@ -1,70 +1,60 @@
 // The cache (Parts 9e, 9i): a line stands in the set of its number, and a free place holds 0.
-ghost use Rattle.std.specs.Prelude.{◌≡◌, cond};
+ghost use Rattle.std.specs.Prelude.{◌≡◌};
 ghost use Rattle.model.specs.Sets.{free_place, place_fits, set_fits, free_set};
 ghost use Rattle.model.specs.Sound.{cache_fits};
 ghost use Rattle.sound.specs.Sites.{cache_free};
 
 use crate::words::{marks_fit, words_fit};
-use model::{Cache, CacheSet, Place, Sizes};
+use model::{CacheSet, Place, Sizes};
 use state::sets::set_number;
 
-fn free_place(p: Place) -> bool
-    ensures { result ≡ free_place p }
+#[tactic(auto, unfolding(model::specs::Sets::free_place))]
+fn free_place(p: &Place) -> bool
+    ensures { result ≡ free_place p.now }
 {
-    let values = p.values;
-    let dirty = p.dirty;
-    !p.used & (p.line == 0) & words_fit(0, values) & marks_fit(0, dirty)
+    !p.used && p.line == 0 && words_fit(0, &p.values) && marks_fit(0, &p.dirty)
 }
 
 // A place of set k: a line of memory whose set is k, or nothing.
-fn place_fits(z: Sizes, k: u8, p: Place) -> bool
-    ensures { result ≡ place_fits z k p }
+#[tactic(auto, unfolding(model::specs::Sets::place_fits))]
+fn place_fits(z: &Sizes, k: u8, p: &Place) -> bool
+    ensures { result ≡ place_fits z.now k p.now }
 {
     if !p.used {
         return free_place(p);
     }
-    let values = p.values;
-    let dirty = p.dirty;
-    (k < z.sets)
-        & (p.line < z.lines)
-        & (set_number(z, p.line) == k)
-        & words_fit(z.words, values)
-        & marks_fit(z.words, dirty)
+    k < z.sets
+        && p.line < z.lines
+        && set_number(*z, p.line) == k
+        && words_fit(z.words, &p.values)
+        && marks_fit(z.words, &p.dirty)
 }
 
 // The places of set k fit.
-fn set_fits(z: Sizes, k: u8, t: CacheSet) -> bool
-    ensures { result ≡ set_fits z k t }
+#[tactic(auto, unfolding(model::specs::Sets::set_fits))]
+fn set_fits(z: &Sizes, k: u8, t: &CacheSet) -> bool
+    ensures { result ≡ set_fits z.now k t.now }
 {
-    place_fits(z, k, t.low)
+    place_fits(z, k, &t.low)
 }
 
-fn free_set(t: CacheSet) -> bool
-    ensures { result ≡ free_set t }
+#[tactic(auto, unfolding(model::specs::Sets::free_set))]
+fn free_set(t: &CacheSet) -> bool
+    ensures { result ≡ free_set t.now }
 {
-    free_place(t.low)
+    free_place(&t.low)
 }
 
-// Set k of a site of the system, or of one past the sizes.
-fn set_place(z: Sizes, used: bool, k: u8, t: CacheSet) -> bool
-    ensures { result ≡ cond used (set_fits z k t) (free_set t) }
+// Every line stands in the set that its number gives.
+pub(crate) fn cache_fits(z: &Sizes, sets: &[CacheSet; 8]) -> bool
+    ensures { result ≡ cache_fits z.now sets.now }
 {
-    if used {
-        return set_fits(z, k, t);
-    }
-    free_set(t)
+    (0..8u8).all(|k| set_fits(z, k, &sets[k as usize]))
 }
 
-// Every line stands in the set that its number gives; at a site past the sizes there is none.
-pub(crate) fn cache_fits(z: Sizes, used: bool, c: Cache) -> bool
-    ensures { result ≡ cond used (cache_fits z c.sets) (cache_free c.sets) }
+// No line is cached.
+pub(crate) fn cache_free(sets: &[CacheSet; 8]) -> bool
+    ensures { result ≡ cache_free sets.now }
 {
-    let mut ok = true;
-    let mut k: u8 = 0;
-    while k < 8 {
-        let t = c.sets[k as usize];
-        ok = ok & set_place(z, used, k, t);
-        k += 1;
-    }
-    ok
+    sets.iter().all(free_set)
 }

@@ -1,67 +1,68 @@
-// What stands at a site fits: its cache, its pend entries, its stall queue and its two queues. A site past the sizes holds nothing.
-ghost use Rattle.std.specs.Prelude.{◌≡◌};
-ghost use Rattle.model.specs.Parts.{site_from};
-ghost use Rattle.model.specs.Sound.{site_ok, sites_fit};
-ghost use Rattle.sound.specs.Sites.{system_of};
+// What stands at a site fits: its cache, its pend entries, its stall queue and its two queues.
+// A site past the sizes holds nothing.
+ghost use Rattle.std.specs.Prelude.{◌≡◌, ◌<◌};
+ghost use Rattle.model.specs.Parts.{site_at};
+ghost use Rattle.model.specs.Sound.{site_fits, free_site, sites_fit};
 
-use crate::differ::{cached_apart, lines_differ, tags_differ};
-use crate::entries::{pends_fit, stalls_fit};
-use crate::messages::near_fits;
-use crate::places::cache_fits;
-use model::{Cache, Pends, SiteQueue, Sizes, Stalls};
+use crate::arrays::{first, none_in_use};
+use crate::differ::all_differ;
+use crate::entries::{free_entry, free_waiting, pends_fit, stalls_fit};
+use crate::messages::{Side, free_message, near_fits};
+use crate::places::{cache_fits, cache_free};
+use model::System;
 
-// Site i of a system, or one past the sizes. Of that one nothing may be in use.
-fn site_ok(
-    z: Sizes,
-    i: u8,
-    cache: Cache,
-    pends: Pends,
-    stalls: Stalls,
-    outgoing: SiteQueue,
-    incoming: SiteQueue,
-) -> bool
-    ensures { result ≡ site_ok z i (site_from cache pends stalls outgoing incoming) }
+// Site i of the system.
+#[tactic(auto, using(crate::proofs::Site::own_tests), unfolding(model::specs::Sound::site_fits))]
+fn site_fits(s: &System, i: u8) -> bool
+    requires { i < 4 }
+    ensures { result ≡ site_fits s.now.sizes i (site_at s.now i) }
 {
-    let used = i < z.sites;
-    let each = cache_fits(z, used, cache)
-        & pends_fit(z, pends)
-        & stalls_fit(z, stalls)
-        & near_fits(z, false, i, outgoing)
-        & near_fits(z, true, i, incoming);
-    if !each {
-        return false;
-    }
-    if !used {
-        return (pends.count == 0)
-            & (stalls.count == 0)
-            & (outgoing.count == 0)
-            & (incoming.count == 0);
-    }
-    cached_apart(z, cache, pends) & lines_differ(pends) & tags_differ(pends, stalls)
+    let at = i as usize;
+    let z = &s.sizes;
+    let sets = &s.caches[at].sets;
+    let pends = &s.pends[at];
+    let stalls = &s.stalls[at];
+    cache_fits(z, sets)
+        && pends_fit(z, pends)
+        && stalls_fit(z, stalls)
+        && all_differ(
+            z,
+            sets,
+            first(&pends.entries, pends.count),
+            first(&stalls.waiting, stalls.count),
+        )
+        && near_fits(z, Side::Requests, i, &s.outgoing[at])
+        && near_fits(z, Side::Replies, i, &s.incoming[at])
 }
 
-// The four sites.
-pub(crate) fn sites_fit(
-    z: Sizes,
-    caches: [Cache; 4],
-    pends: [Pends; 4],
-    stalls: [Stalls; 4],
-    outgoing: [SiteQueue; 4],
-    incoming: [SiteQueue; 4],
-) -> bool
-    ensures { result ≡ sites_fit (system_of z caches pends stalls outgoing incoming) }
+// Site i, past the sizes: nothing of it may be in use.
+#[tactic(auto, using(crate::proofs::InUse::whole_array), unfolding(model::specs::Sound::free_site))]
+fn free_site(s: &System, i: u8) -> bool
+    requires { i < 4 }
+    ensures { result ≡ free_site (site_at s.now i) }
 {
-    let mut ok = true;
-    let mut i: u8 = 0;
-    while i < 4 {
-        let at = i as usize;
-        let cache = caches[at];
-        let pend = pends[at];
-        let stall = stalls[at];
-        let out = outgoing[at];
-        let back = incoming[at];
-        ok = ok & site_ok(z, i, cache, pend, stall, out, back);
-        i += 1;
-    }
-    ok
+    let at = i as usize;
+    cache_free(&s.caches[at].sets)
+        && none_in_use(s.pends[at].count, &s.pends[at].entries, free_entry)
+        && none_in_use(s.stalls[at].count, &s.stalls[at].waiting, free_waiting)
+        && none_in_use(s.outgoing[at].count, &s.outgoing[at].items, free_message)
+        && none_in_use(s.incoming[at].count, &s.incoming[at].items, free_message)
+}
+
+// The four sites: those of the system, and those past the sizes.
+pub(crate) fn sites_fit(s: &System) -> bool
+    ensures { result ≡ sites_fit s.now }
+{
+    let sites = s.sizes.sites;
+    // Each part has a place for four sites.
+    prove_eq!(s.caches[..].len(), 4);
+    prove_eq!(s.pends[..].len(), 4);
+    prove_eq!(s.stalls[..].len(), 4);
+    prove_eq!(s.outgoing[..].len(), 4);
+    prove_eq!(s.incoming[..].len(), 4);
+    (0..4u8).all(|i| if i < sites {
+        site_fits(s, i)
+    } else {
+        free_site(s, i)
+    })
 }

@@ -1,82 +1,34 @@
 // Queues of messages: one more at the tail, and one taken out and the gap closed (Parts 2e, 4, 5, 6).
-ghost use Rattle.std.specs.Prelude.{◌≡◌, cond, ◌-◌, ltb};
+ghost use Rattle.std.specs.Prelude.{◌≡◌, cond, ltb};
 ghost use Rattle.model.specs.Parts.{site_put, site_rest, net_put, net_rest};
 
+use crate::places::{put, take_out};
 use model::{Message, Queue, SiteQueue};
 
-// A count after one has left; of none, none.
-pub(crate) fn one_less(n: u8) -> u8
-    ensures { result ≡ n - 1 }
+// The message joins a site's queue at its tail; a full one stays as it is.
+pub fn site_put(q: &mut SiteQueue, m: Message)
+    ensures { q.new ≡ cond (ltb q.old.count 5) (site_put q.old m) q.old }
 {
-    if n == 0 {
-        return 0;
-    }
-    n - 1
+    put(&mut q.items, &mut q.count, m)
 }
 
-// A site's queue with the message at its tail; a full one stays as it is.
-pub fn site_put(q: SiteQueue, m: Message) -> SiteQueue
-    ensures { result ≡ cond (ltb q.count 5) (site_put q m) q }
+// A site's queue loses its head.
+pub fn site_rest(q: &mut SiteQueue)
+    ensures { q.new ≡ site_rest q.old }
 {
-    let n = q.count;
-    if 5 <= n {
-        return q;
-    }
-    let at = n as usize;
-    let mut next = q;
-    next.items[at] = m;
-    next.count = n + 1;
-    next
+    take_out(&mut q.items, &mut q.count, 0, Message::none())
 }
 
-// A site's queue without its head.
-pub fn site_rest(q: SiteQueue) -> SiteQueue
-    ensures { result ≡ site_rest q }
+// The message joins a network, or a queue of memory, at its tail; a full one stays as it is.
+pub fn net_put(q: &mut Queue, m: Message)
+    ensures { q.new ≡ cond (ltb q.old.count 20) (net_put q.old m) q.old }
 {
-    let mut next = q;
-    let mut i: usize = 0;
-    while i < 4 {
-        let m = q.items[i + 1];
-        next.items[i] = m;
-        i += 1;
-    }
-    let none = Message::none();
-    next.items[4] = none;
-    next.count = one_less(q.count);
-    next
+    put(&mut q.items, &mut q.count, m)
 }
 
-// A network, or a queue of memory, with the message at its tail; a full one stays as it is.
-pub fn net_put(q: Queue, m: Message) -> Queue
-    ensures { result ≡ cond (ltb q.count 20) (net_put q m) q }
+// A network, or a queue of memory, loses the message at the position.
+pub fn net_rest(q: &mut Queue, position: usize)
+    ensures { q.new ≡ net_rest q.old position }
 {
-    let n = q.count;
-    if 20 <= n {
-        return q;
-    }
-    let at = n as usize;
-    let mut next = q;
-    next.items[at] = m;
-    next.count = n + 1;
-    next
-}
-
-// A network, or a queue of memory, without the message at the position.
-pub fn net_rest(q: Queue, position: usize) -> Queue
-    ensures { result ≡ net_rest q position }
-{
-    let mut next = q;
-    next.count = one_less(q.count);
-    if 20 <= position {
-        return next;
-    }
-    let mut i = position;
-    while i < 19 {
-        let m = q.items[i + 1];
-        next.items[i] = m;
-        i += 1;
-    }
-    let none = Message::none();
-    next.items[19] = none;
-    next
+    take_out(&mut q.items, &mut q.count, position, Message::none())
 }

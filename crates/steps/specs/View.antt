@@ -1,41 +1,73 @@
 -- A site in hand, and what comes of a visit to it, in the words of the definitions.
-use Rattle.std.specs.Prelude.{◌≡◌, Bool, true, false, ℕ, ◌+◌, ◌≤◌, ◌<◌, leb}
+use Rattle.std.specs.Prelude.{◌≡◌, Bool, true, false, ℕ, ◌+◌, ◌≤◌, ◌<◌, ltb}
 use Rattle.model.specs.declared.Sizes.{Sizes}
 use Rattle.model.specs.declared.Waiting.{Waiting}
-use Rattle.model.specs.declared.Place.{Place}
 use Rattle.model.specs.declared.System.{System}
 use Rattle.model.specs.declared.After.{After}
+use Rattle.model.specs.declared.Answer.{Answer}
 use Rattle.model.specs.declared.Action.{Action}
 use Rattle.model.specs.declared.Action.TheVariants.{Load, Store, Acknowledge, Drop, Fetch, WriteBackKept, WriteBackDropped, Wait}
 use Rattle.model.specs.Limits.{line_of, word_of}
 use Rattle.model.specs.Parts.{Site, site_from, site_at, put_site, site_head}
-use Rattle.model.specs.Handling.{Handled, place_of, facts_of, decided}
-use Rattle.model.specs.declared.Step.{Step}
-use Rattle.model.specs.declared.Step.TheVariants.{Issue, Retry, Send, ArriveMemory, Serve, SendBack, ArriveSite, Take}
-use Rattle.model.specs.Issue.{as_waiting}
-use Rattle.model.specs.Steps.{issued_at, retried_at, took_at}
+use Rattle.model.specs.Handling.{Handled}
+use Rattle.model.specs.Results.{Outcome}
+use Rattle.model.specs.Steps.{unless}
+use Rattle.model.specs.declared.Refusal.TheVariants.{NoSuchSite}
 use Rattle.model.specs.Take.{entry_for}
 use Rattle.rules.specs.declared.issue.Apart.{Apart}
 use Rattle.promises.proofs.Sound.{Ready}
 use Rattle.steps.specs.declared.here.Here.{Here}
-use Rattle.steps.specs.declared.here.Made.{Made}
-use Rattle.steps.specs.declared.here.Visit.{Visit}
-use Rattle.steps.specs.declared.visit.Choice.{Choice}
+use Rattle.steps.specs.After.{after}
 
 -- the site that the parts in hand are
 abbrev pub site_of : Here → Site
 site_of x = site_from x.cache x.pends x.stalls x.outgoing x.incoming
 
-abbrev pub handled_of : Made → Handled
-handled_of m = record { answer = m.answer; site = site_of m.here }
+-- the hand with that site's parts in it
+abbrev pub with_site : Here → Site → Here
+with_site x y = record {
+  home = x.home;
+  cache = record { sets = y.cache };
+  pends = record { entries = y.entries; count = y.pends };
+  stalls = record { waiting = y.waiting; count = y.stalls };
+  outgoing = y.outgoing;
+  incoming = y.incoming;
+}
 
--- the visit's outcome, and the system with the site put back
-abbrev pub laid : System → ℕ → Visit → After
-laid s i v = record { outcome = v.outcome; system = put_site s i (site_of v.here) }
+-- site i of the system is in hand
+pub record Held (s : System) (i : ℕ) (x : Here) : Type 0 where
+  pub within : i < s.sizes.sites
+  pub sizes : x.home.sizes ≡ s.sizes
+  pub site : x.home.site ≡ i
+  pub parts : site_of x ≡ site_at s i
 
--- the visit v to site i, which was x, does what f says of every system that has that site
-abbrev pub Does : Sizes → ℕ → Here → Visit → (System → After) → Type 0
-Does z i x v f = (s : System) → s.sizes ≡ z → site_at s i ≡ site_of x → laid s i v ≡ f s
+-- what was made of an instruction or a reply: the answer, and the hand after it
+pub record Made : Type 0 where
+  pub answer : Answer
+  pub here : Here
+
+abbrev pub made : Answer → Here → Made
+made a x = record { answer = a; here = x }
+
+-- the same, as the definitions have it
+abbrev pub made_of : Here → Handled → Made
+made_of x h = made h.answer (with_site x h.site)
+
+-- the outcome, and the system with the site put back
+unfoldable pub laid : System → Outcome → Here → After
+laid s o x = after o (put_site s x.home.site (site_of x))
+
+-- a visit to the site x, which gave o and left y, does what f says of every system that has that site
+abbrev pub Does : Here → Here → Outcome → (System → After) → Type 0
+Does x y o f = (s : System) → s.sizes ≡ x.home.sizes → site_at s x.home.site ≡ site_of x → laid s o y ≡ f s
+
+-- what a visit makes of a system, by the site's number and the site
+abbrev pub Visit : Type 0
+Visit = ℕ → Site → System → After
+
+-- the visit g to site i, where there is one
+abbrev pub at_site : Visit → System → ℕ → After
+at_site g s i = unless (ltb i s.sizes.sites) NoSuchSite s (g i (site_at s i) s)
 
 -- the action adds a pend entry and queues its request
 abbrev pub asks : Action → Bool
@@ -52,37 +84,13 @@ asks Wait = false
 abbrev pub waiting_of : Sizes → ℕ → Apart → Waiting
 waiting_of z t a = record { kind = a.kind; line = line_of z a.first; word = word_of z a.first; tag = t; value = a.value }
 
--- what is decided of the instruction w, whose line is at p if it is cached
-abbrev pub choice_of : Sizes → Site → Waiting → Place → Choice
-choice_of z x w p = record { place = p; action = decided w.kind (facts_of z x w p); crowded = leb z.stall x.stalls }
-
-abbrev pub chosen : Sizes → Site → Waiting → Choice
-chosen z x w = choice_of z x w (place_of z x w.line)
-
--- what soundness says of a site: it fits, its messages are no more than its entries, and the reply at its head has its entry
+-- what soundness says of a site: it fits, its messages are no more than its entries,
+-- and the reply at its head has its entry
 pub record Fit (z : Sizes) (i : ℕ) (x : Site) : Type 0 where
   pub ready : Ready z i x
   pub room : x.outgoing.count + x.incoming.count ≤ x.pends
   pub entry : 0 < x.incoming.count → entry_for x (site_head x.incoming).line < x.pends
 
--- an issue, a retry or a take at site i; any other step counts as a take
-unfoldable pub visited : System → ℕ → Site → Step → After
-visited s i x (Issue j t n) = issued_at s i x n (as_waiting s.sizes t n)
-visited s i x (Retry j) = retried_at s i x
-visited s i x (Send j) = took_at s i x
-visited s i x (ArriveMemory p) = took_at s i x
-visited s i x Serve = took_at s i x
-visited s i x SendBack = took_at s i x
-visited s i x (ArriveSite p) = took_at s i x
-visited s i x (Take j) = took_at s i x
-
--- the site that an issue, a retry or a take visits; 0 for any other step
-unfoldable pub site_visited : Step → ℕ
-site_visited (Issue i t n) = i
-site_visited (Retry i) = i
-site_visited (Send i) = 0
-site_visited (ArriveMemory p) = 0
-site_visited Serve = 0
-site_visited SendBack = 0
-site_visited (ArriveSite p) = 0
-site_visited (Take i) = i
+-- the same of the site in hand
+abbrev pub Fits : Here → Type 0
+Fits x = Fit x.home.sizes x.home.site (site_of x)

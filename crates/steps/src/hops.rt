@@ -1,150 +1,97 @@
 // The steps that carry a message on: send, arrive-memory, serve, send-back and arrive-site.
-ghost use Rattle.std.specs.Prelude.{◌≡◌, ◌≤◌, ◌<◌, get_or};
-ghost use Rattle.model.specs.declared.System.{System};
-ghost use Rattle.model.specs.Parts.{past_site_queue, net_at};
-ghost use Rattle.model.specs.Steps.{sent, serve_step, arrived_site};
-ghost use Rattle.steps.specs.Carried.{hopped, sent_of, served_of, reached_of};
+// With a refusal the state is as it was.
+ghost use Rattle.std.specs.Prelude.{◌≡◌, ◌≤◌, ◌<◌, true};
+ghost use Rattle.model.specs.Sound.{sound};
+ghost use Rattle.model.specs.Steps.{sent, arrived_memory, serve_step, sent_back, arrived_site};
+ghost use Rattle.steps.specs.After.{after};
+ghost use Rattle.steps.specs.Carried.{moved, hopped};
 
-use model::{Answer, Line, Outcome, Queue, Refusal, SiteQueue};
+use model::{Answer, Outcome, Queue, Refusal, System};
 use rules::memory::{line_after, reply_to};
 use state::queues::{net_put, net_rest, site_put, site_rest};
 
-// What came of a step from one network or queue of memory to another: the outcome, and the two after it.
-#[derive(Clone, Copy)]
-pub struct Moved {
-    pub outcome: Outcome,
-    pub from: Queue,
-    pub to: Queue,
-}
-
-// The message at the position goes to the other's tail.
-pub(crate) fn hop(from: Queue, position: u32, to: Queue) -> Moved
-    requires { (from.count ≤ 20) × (position < from.count → to.count < 20) }
-    ensures { result ≡ hopped from position to }
+// The message at the position goes from one network or queue of memory to the other's tail.
+fn hop(from: &mut Queue, position: u32, to: &mut Queue) -> Outcome
+    requires { (from.old.count ≤ 20) × (position < from.old.count → to.old.count < 20) }
+    ensures { moved result from.new to.new ≡ hopped from.old position to.old }
 {
     if from.count as u32 <= position {
-        return Moved {
-            outcome: Outcome::Refused(Refusal::NothingThere),
-            from: from,
-            to: to,
-        };
+        return Err(Refusal::NothingThere);
     }
     let at = position as usize;
     let m = from.items[at];
-    let rest = net_rest(from, at);
-    let more = net_put(to, m);
-    Moved {
-        outcome: Outcome::Done(Answer::Nothing),
-        from: rest,
-        to: more,
-    }
+    net_rest(from, at);
+    net_put(to, m);
+    Ok(Answer::Nothing)
 }
 
-// What came of a send: the outcome, the sites' outgoing queues and the up network after it.
-#[derive(Clone, Copy)]
-pub struct Sent {
-    pub outcome: Outcome,
-    pub outgoing: [SiteQueue; 4],
-    pub up: Queue,
-}
-
-pub(crate) fn send(sites: u8, site: u32, mut outgoing: [SiteQueue; 4], up: Queue) -> Sent
-    requires { (sites ≤ 4) × (site < sites → 0 < (get_or outgoing site past_site_queue).count → up.count < 20) }
-    ensures { (s : System) → s.sizes.sites ≡ sites → s.outgoing ≡ outgoing → s.up ≡ up → sent_of s result ≡ sent s site }
+// The first message of the site's outgoing queue goes to the up network.
+#[tactic(auto, using(crate::proofs::Visits::few_sites, crate::proofs::Carries::room_to_send), unfolding(model::specs::Steps::sent, model::specs::Steps::sent_from, model::specs::Steps::after_send))]
+pub(crate) fn send(s: &mut System, site: u32) -> Outcome
+    requires { sound s.old ≡ true }
+    ensures { after result s.new ≡ sent s.old site }
 {
-    if sites as u32 <= site {
-        return Sent {
-            outcome: Outcome::Refused(Refusal::NoSuchSite),
-            outgoing: outgoing,
-            up: up,
-        };
+    if s.sizes.sites as u32 <= site {
+        return Err(Refusal::NoSuchSite);
     }
-    let k = site as usize;
-    let q = outgoing[k];
+    let q = &mut s.outgoing[site as usize];
     if q.count == 0 {
-        return Sent {
-            outcome: Outcome::Refused(Refusal::NothingThere),
-            outgoing: outgoing,
-            up: up,
-        };
+        return Err(Refusal::NothingThere);
     }
     let m = q.items[0];
-    let rest = site_rest(q);
-    outgoing[k] = rest;
-    let more = net_put(up, m);
-    Sent {
-        outcome: Outcome::Done(Answer::Nothing),
-        outgoing: outgoing,
-        up: more,
-    }
+    site_rest(q);
+    net_put(&mut s.up, m);
+    Ok(Answer::Nothing)
 }
 
-// What came of a serve: the outcome, memory and its two queues after it.
-#[derive(Clone, Copy)]
-pub struct Served {
-    pub outcome: Outcome,
-    pub memory: [Line; 16],
-    pub arrived: Queue,
-    pub served: Queue,
-}
-
-pub(crate) fn serve(mut memory: [Line; 16], arrived: Queue, served: Queue) -> Served
-    requires { 0 < arrived.count → ((net_at arrived 0).line < 16) × (served.count < 20) }
-    ensures { (s : System) → s.memory ≡ memory → s.arrived ≡ arrived → s.served ≡ served → served_of s result ≡ serve_step s }
+// A message of the up network goes to memory's incoming queue.
+#[tactic(auto, using(crate::proofs::Carries::up_most, crate::proofs::Carries::room_to_arrive), unfolding(model::specs::Steps::arrived_memory, model::specs::Steps::after_arrive_memory))]
+pub(crate) fn arrive_memory(s: &mut System, position: u32) -> Outcome
+    requires { sound s.old ≡ true }
+    ensures { after result s.new ≡ arrived_memory s.old position }
 {
-    if arrived.count == 0 {
-        return Served {
-            outcome: Outcome::Refused(Refusal::NothingThere),
-            memory: memory,
-            arrived: arrived,
-            served: served,
-        };
+    hop(&mut s.up, position, &mut s.arrived)
+}
+
+// Memory does what its first request asks, and its reply goes to memory's outgoing queue.
+#[tactic(auto, using(crate::proofs::Carries::room_to_serve, crate::proofs::Carries::line_served, crate::proofs::Carries::stores), unfolding(model::specs::Steps::serve_step, model::specs::Steps::after_serve))]
+pub(crate) fn serve(s: &mut System) -> Outcome
+    requires { sound s.old ≡ true }
+    ensures { after result s.new ≡ serve_step s.old }
+{
+    if s.arrived.count == 0 {
+        return Err(Refusal::NothingThere);
     }
-    let m = arrived.items[0];
+    let m = s.arrived.items[0];
     let k = m.line as usize;
-    let old = memory[k];
-    let new = line_after(old, m);
-    memory[k] = new;
-    let rest = net_rest(arrived, 0);
-    let reply = reply_to(old, m);
-    let more = net_put(served, reply);
-    Served {
-        outcome: Outcome::Done(Answer::Nothing),
-        memory: memory,
-        arrived: rest,
-        served: more,
-    }
+    let old = s.memory[k];
+    s.memory[k] = line_after(old, m);
+    net_rest(&mut s.arrived, 0);
+    net_put(&mut s.served, reply_to(old, m));
+    Ok(Answer::Nothing)
 }
 
-// What came of an arrive-site: the outcome, the down network and the sites' incoming queues after it.
-#[derive(Clone, Copy)]
-pub struct Reached {
-    pub outcome: Outcome,
-    pub down: Queue,
-    pub incoming: [SiteQueue; 4],
-}
-
-pub(crate) fn reach(down: Queue, position: u32, mut incoming: [SiteQueue; 4]) -> Reached
-    requires { (down.count ≤ 20) × (position < down.count → ((net_at down position).site < 4) × ((get_or incoming (net_at down position).site past_site_queue).count < 5)) }
-    ensures { (s : System) → s.down ≡ down → s.incoming ≡ incoming → reached_of s result ≡ arrived_site s position }
+// The first message of memory's outgoing queue goes to the down network.
+#[tactic(auto, using(crate::proofs::Carries::served_most, crate::proofs::Carries::room_to_go_back), unfolding(model::specs::Steps::sent_back, model::specs::Steps::after_send_back))]
+pub(crate) fn send_back(s: &mut System) -> Outcome
+    requires { sound s.old ≡ true }
+    ensures { after result s.new ≡ sent_back s.old }
 {
-    if down.count as u32 <= position {
-        return Reached {
-            outcome: Outcome::Refused(Refusal::NothingThere),
-            down: down,
-            incoming: incoming,
-        };
+    hop(&mut s.served, 0, &mut s.down)
+}
+
+// A message of the down network goes to its site's incoming queue.
+#[tactic(auto, using(crate::proofs::Carries::down_most, crate::proofs::Carries::site_reached, crate::proofs::Carries::room_to_reach), unfolding(model::specs::Steps::arrived_site, model::specs::Steps::after_arrive_site))]
+pub(crate) fn arrive_site(s: &mut System, position: u32) -> Outcome
+    requires { sound s.old ≡ true }
+    ensures { after result s.new ≡ arrived_site s.old position }
+{
+    if s.down.count as u32 <= position {
+        return Err(Refusal::NothingThere);
     }
     let at = position as usize;
-    let m = down.items[at];
-    let k = m.site as usize;
-    let q = incoming[k];
-    let more = site_put(q, m);
-    incoming[k] = more;
-    let rest = net_rest(down, at);
-    Reached {
-        outcome: Outcome::Done(Answer::Nothing),
-        down: rest,
-        incoming: incoming,
-    }
+    let m = s.down.items[at];
+    site_put(&mut s.incoming[m.site as usize], m);
+    net_rest(&mut s.down, at);
+    Ok(Answer::Nothing)
 }

@@ -10,140 +10,51 @@ mod visit;
 ghost use Rattle.std.specs.Prelude.{◌≡◌, true};
 ghost use Rattle.model.specs.Sound.{sound};
 ghost use Rattle.model.specs.Steps.{step_of, stepped};
+ghost use Rattle.steps.specs.After.{after};
 
-use here::Here;
-use hops::{hop, reach, send, serve};
+use hops::{arrive_memory, arrive_site, send, send_back, serve};
 use model::{After, Outcome, Refusal, Step, System};
 use sound::is_sound;
-use visit::{site_visited, visit};
+use visit::{issue, retry, take};
 
-// A step of a sound state. It asks for soundness and does not look: what it leaves is sound again, so whoever steps on need not look either.
-// It alone holds a System, since each function that takes one and gives one back costs up to two copies of it; hence its length. What is no step of the kind
-// looked for leaves by `else`, so the kinds' bodies stand in the reverse order of their heads.
-pub fn step_sound(mut s: System, x: Step) -> After
-    requires { sound s ≡ true }
-    ensures { result ≡ step_of s x }
+// A step on a sound state; with a refusal the state is as it was. It asks for soundness and does not look:
+// what it leaves is sound again, so whoever steps on need not look either.
+#[tactic(auto, unfolding(model::specs::Steps::step_of))]
+pub fn step_sound(s: &mut System, x: Step) -> Outcome
+    requires { sound s.old ≡ true }
+    ensures { after result s.new ≡ step_of s.old x }
 {
-    let Step::Send(site) = x else {
-        let Step::ArriveMemory(position) = x else {
-            let Step::Serve = x else {
-                let Step::SendBack = x else {
-                    let Step::ArriveSite(position) = x else {
-                        // Issue, retry or take: the site is taken out, visited and put back.
-                        let z = s.sizes;
-                        let site = site_visited(x);
-                        if z.sites as u32 <= site {
-                            return After {
-                                outcome: Outcome::Refused(Refusal::NoSuchSite),
-                                system: s,
-                            };
-                        }
-                        let k = site as usize;
-                        let cache = s.caches[k];
-                        let pends = s.pends[k];
-                        let stalls = s.stalls[k];
-                        let outgoing = s.outgoing[k];
-                        let incoming = s.incoming[k];
-                        let here = Here {
-                            cache: cache,
-                            pends: pends,
-                            stalls: stalls,
-                            outgoing: outgoing,
-                            incoming: incoming,
-                        };
-                        let v = visit(z, site as u8, here, x);
-                        let y = v.here;
-                        let cache = y.cache;
-                        s.caches[k] = cache;
-                        let pends = y.pends;
-                        s.pends[k] = pends;
-                        let stalls = y.stalls;
-                        s.stalls[k] = stalls;
-                        let outgoing = y.outgoing;
-                        s.outgoing[k] = outgoing;
-                        let incoming = y.incoming;
-                        s.incoming[k] = incoming;
-                        let outcome = v.outcome;
-                        return After {
-                            outcome: outcome,
-                            system: s,
-                        };
-                    };
-                    // Arrive-site.
-                    let incoming = s.incoming;
-                    let h = reach(s.down, position, incoming);
-                    let down = h.down;
-                    s.down = down;
-                    let incoming = h.incoming;
-                    s.incoming = incoming;
-                    let outcome = h.outcome;
-                    return After {
-                        outcome: outcome,
-                        system: s,
-                    };
-                };
-                // Send-back.
-                let h = hop(s.served, 0, s.down);
-                let served = h.from;
-                s.served = served;
-                let down = h.to;
-                s.down = down;
-                let outcome = h.outcome;
-                return After {
-                    outcome: outcome,
-                    system: s,
-                };
-            };
-            // Serve.
-            let memory = s.memory;
-            let h = serve(memory, s.arrived, s.served);
-            let memory = h.memory;
-            s.memory = memory;
-            let arrived = h.arrived;
-            s.arrived = arrived;
-            let served = h.served;
-            s.served = served;
-            let outcome = h.outcome;
-            return After {
-                outcome: outcome,
-                system: s,
-            };
-        };
-        // Arrive-memory.
-        let h = hop(s.up, position, s.arrived);
-        let up = h.from;
-        s.up = up;
-        let arrived = h.to;
-        s.arrived = arrived;
-        let outcome = h.outcome;
-        return After {
-            outcome: outcome,
-            system: s,
-        };
-    };
-    // Send.
-    let outgoing = s.outgoing;
-    let h = send(s.sizes.sites, site, outgoing, s.up);
-    let outgoing = h.outgoing;
-    s.outgoing = outgoing;
-    let up = h.up;
-    s.up = up;
-    let outcome = h.outcome;
-    After {
-        outcome: outcome,
-        system: s,
+    match x {
+        Step::Issue {
+            site,
+            tag,
+            instruction,
+        } => issue(s, site, tag, instruction),
+        Step::Retry(site) => retry(s, site),
+        Step::Send(site) => send(s, site),
+        Step::ArriveMemory(position) => arrive_memory(s, position),
+        Step::Serve => serve(s),
+        Step::SendBack => send_back(s),
+        Step::ArriveSite(position) => arrive_site(s, position),
+        Step::Take(site) => take(s, site),
     }
 }
 
-// A step of any state: one that is not sound is refused with 1.
-pub fn step(s: System, x: Step) -> After
-    ensures { result ≡ stepped s x }
+// A step on any state: one that is not sound is refused with 1.
+#[tactic(auto, unfolding(model::specs::Steps::stepped))]
+pub fn step_on(s: &mut System, x: Step) -> Outcome
+    ensures { after result s.new ≡ stepped s.old x }
 {
     if !is_sound(s) {
-        return After {
-            outcome: Outcome::Refused(Refusal::NotSound),
-            system: s,
-        };
+        return Err(Refusal::NotSound);
     }
     step_sound(s, x)
+}
+
+// A step from any state to the next.
+pub fn step(mut s: System, x: Step) -> After
+    ensures { result ≡ stepped s x }
+{
+    let outcome = step_on(&mut s, x);
+    After { outcome, system: s }
 }

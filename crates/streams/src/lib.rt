@@ -8,8 +8,8 @@ ghost use Rattle.std.specs.Io.KnownBytes.{Appends, Consumes, IsAtEnd};
 use std::io;
 use std::io::{ErrorKind, Read, Write};
 
-// Reads until buf is full or the input ends, and gives how many bytes it put at the start of buf. A read that fails ends it with that error; what was read
-// before it stands at the start of buf.
+// Reads until buf is full or the input ends, and gives how many bytes it put at the start of buf. A read that fails
+// ends it with that error; what was read before it stands at the start of buf.
 pub fn read_full<R: Read>(input: &mut R, buf: &mut [u8]) -> io::Result<usize>
     ensures bound { ReadsAtMost result buf.new }
     ensures bytes { IfOk result (λ n. Consumes (R.remaining input.old) (R.remaining input.new) (take n buf.new)) }
@@ -27,7 +27,8 @@ pub fn read_full<R: Read>(input: &mut R, buf: &mut [u8]) -> io::Result<usize>
     Ok(done)
 }
 
-// Writes all of buf. A write that fails, or that takes nothing, ends it with an error; what was written before it is a start of buf.
+// Writes all of buf. A write that fails, or that takes nothing, ends it with an error; what was written before it is a
+// start of buf.
 pub fn write_full<W: Write>(output: &mut W, buf: &[u8]) -> io::Result<()>
     ensures ok { OnOk result (Appends (W.contents output.old) (W.contents output.new) buf.now) }
     ensures err { OnErr result ((n : ℕ) × (n ≤ length buf.now) × Appends (W.contents output.old) (W.contents output.new) (take n buf.now)) }

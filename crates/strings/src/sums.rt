@@ -8,12 +8,12 @@ pub(crate) fn more(n: u64) -> u64 {
 }
 
 // The sum with one more number in it; the order of the numbers counts.
-pub(crate) fn mixed(sum: u64, n: u64) -> u64 {
+fn mixed(sum: u64, n: u64) -> u64 {
     (sum % 4294967296 * 31 + n % 4294967296) % 4294967296
 }
 
-fn mix_pair(sum: u64, kind: u64, field: u32) -> u64 {
-    mixed(mixed(sum, kind), field as u64)
+fn mix_all(sum: u64, numbers: &[u64]) -> u64 {
+    numbers.iter().fold(sum, |sum, n| mixed(sum, *n))
 }
 
 // A step's number, then its fields; of an issue site, tag, instruction number, first and last address, and value.
@@ -25,25 +25,44 @@ pub(crate) fn mix_step(sum: u64, x: Step) -> u64 {
             instruction,
         } => {
             let a = take_apart(instruction);
-            let start = mix_pair(mix_pair(sum, 0, site), tag as u64, a.kind as u32);
-            mixed(mix_pair(start, a.first as u64, a.last), a.value as u64)
+            mix_all(
+                sum,
+                &[
+                    0,
+                    site.into(),
+                    tag.into(),
+                    a.kind.into(),
+                    a.first.into(),
+                    a.last.into(),
+                    a.value.into(),
+                ],
+            )
         }
-        Step::Retry(site) => mix_pair(sum, 1, site),
-        Step::Send(site) => mix_pair(sum, 2, site),
-        Step::ArriveMemory(position) => mix_pair(sum, 3, position),
+        Step::Retry(site) => mix_all(sum, &[1, site.into()]),
+        Step::Send(site) => mix_all(sum, &[2, site.into()]),
+        Step::ArriveMemory(position) => mix_all(sum, &[3, position.into()]),
         Step::Serve => mixed(sum, 4),
         Step::SendBack => mixed(sum, 5),
-        Step::ArriveSite(position) => mix_pair(sum, 6, position),
-        Step::Take(site) => mix_pair(sum, 7, site),
+        Step::ArriveSite(position) => mix_all(sum, &[6, position.into()]),
+        Step::Take(site) => mix_all(sum, &[7, site.into()]),
     }
 }
 
 // A refusal's number and its place.
 pub(crate) fn mix_refusal(sum: u64, why: Refusal) -> u64 {
-    mixed(mixed(sum, number(why) as u64), place(why) as u64)
+    mix_all(sum, &[number(why).into(), place(why) as u64])
 }
 
 pub(crate) fn mix_sizes(sum: u64, z: Sizes) -> u64 {
-    let first = mix_pair(mixed(sum, z.sites as u64), z.words as u64, z.lines as u32);
-    mix_pair(mixed(first, z.sets as u64), z.pend as u64, z.stall as u32)
+    mix_all(
+        sum,
+        &[
+            z.sites.into(),
+            z.words.into(),
+            z.lines.into(),
+            z.sets.into(),
+            z.pend.into(),
+            z.stall.into(),
+        ],
+    )
 }

@@ -12,6 +12,7 @@ use Rattle.numbers.specs.Groups.{Put}
 use Rattle.model.specs.Record.{Written}
 use Rattle.model.specs.Drain.{Drain}
 use Rattle.model.specs.declared.System.{System}
+use Rattle.model.specs.declared.After.{After}
 use Rattle.calls.specs.Calls.{WriteBy, DrainBy}
 use Rattle.calls.specs.declared.values.Stepped.{Stepped}
 use Rattle.numbers.specs.contracts.read_number as read_number
@@ -33,6 +34,8 @@ use Rattle.codes.specs.contracts.refusals.place as place
 use Rattle.codes.specs.contracts.refusals.given_of as given_of
 use Rattle.codes.specs.contracts.refusals.is_done as is_done
 use Rattle.codes.specs.contracts.rows.numbers_of as numbers_of
+use Rattle.codes.specs.contracts.rows.Row.as_slice as as_slice
+use Rattle.codes.specs.contracts.rows.Row.padded as padded
 use Rattle.codes.specs.contracts.sizes.sizes_of as sizes_of
 use Rattle.codes.specs.contracts.sizes.sizes_row as sizes_row
 use Rattle.record.specs.contracts.read_sizes as read_sizes
@@ -72,6 +75,7 @@ use Rattle.rules.specs.contracts.memory.reply_to as reply_to
 use Rattle.sound.specs.contracts.is_sound as is_sound
 use Rattle.steps.specs.contracts.step_sound as step_sound
 use Rattle.steps.specs.contracts.step as step
+use Rattle.steps.specs.contracts.step_on as step_on
 use Rattle.drain.specs.contracts.drain as drain
 use Rattle.calls.specs.contracts.reads.read_sizes_call as read_sizes_call
 use Rattle.calls.specs.contracts.reads.read_step_call as read_step_call
@@ -100,7 +104,7 @@ use Rattle.listing.specs.contracts.put_left as put_left
 use Rattle.listing.specs.contracts.put_record as put_record
 use Rattle.left.specs.contracts.outstanding_left as outstanding_left
 use Rattle.left.specs.contracts.messages_left as messages_left
-use Rattle.unique.specs.Only.{Only, nothing}
+use Rattle.unique.specs.Only.{Only, OnlySeen, nothing}
 
 abbrev same : {X : Type 0} → X → X
 same x = x
@@ -182,6 +186,12 @@ module _ {M : Type 1} {𝓤 : Ura M} (𝓛 : Logic 𝓤) (mem : Memory → SProp
   numbers_of_only : Only numbers_of.ended (numbers_of.clauses 𝓛 mem run) (λ κs. nothing)
   numbers_of_only κs a g r r' e e' known = only same nothing
 
+  as_slice_only : OnlySeen as_slice.ended (as_slice.clauses 𝓛 mem run) (λ κs r. r.now) (λ κs. nothing)
+  as_slice_only κs a g r r' e e' known = only_first same nothing
+
+  padded_only : Only padded.ended (padded.clauses 𝓛 mem run) (λ κs. nothing)
+  padded_only κs a g r r' e e' known = only same nothing
+
   sizes_of_only : Only sizes_of.ended (sizes_of.clauses 𝓛 mem run) (λ κs. nothing)
   sizes_of_only κs a g r r' e e' known = only same nothing
 
@@ -205,17 +215,17 @@ module _ {M : Type 1} {𝓤 : Ura M} (𝓛 : Logic 𝓤) (mem : Memory → SProp
   write_record_only κs a g r r' e e' known = only (λ (x : Written). x.wrote) (λ x. x.buffer)
 
   -- state
-  entry_put_only : Only entry_put.ended (entry_put.clauses 𝓛 mem run) (λ κs. nothing)
-  entry_put_only κs a g r r' e e' known = only same nothing
+  entry_put_only : Only entry_put.ended (entry_put.clauses 𝓛 mem run) (λ κs e. e.0.now)
+  entry_put_only κs a g r r' e e' known = only nothing same
 
   entry_for_only : Only entry_for.ended (entry_for.clauses 𝓛 mem run) (λ κs. nothing)
   entry_for_only κs a g r r' e e' known = only same nothing
 
-  entry_replaced_only : Only entry_replaced.ended (entry_replaced.clauses 𝓛 mem run) (λ κs. nothing)
-  entry_replaced_only κs a g r r' e e' known = only same nothing
+  entry_replaced_only : Only entry_replaced.ended (entry_replaced.clauses 𝓛 mem run) (λ κs e. e.0.now)
+  entry_replaced_only κs a g r r' e e' known = only nothing same
 
-  entry_removed_only : Only entry_removed.ended (entry_removed.clauses 𝓛 mem run) (λ κs. nothing)
-  entry_removed_only κs a g r r' e e' known = only same nothing
+  entry_removed_only : Only entry_removed.ended (entry_removed.clauses 𝓛 mem run) (λ κs e. e.0.now)
+  entry_removed_only κs a g r r' e e' known = only nothing same
 
   no_tag_only : Only no_tag.ended (no_tag.clauses 𝓛 mem run) (λ κs. nothing)
   no_tag_only κs a g r r' e e' known = only same nothing
@@ -223,17 +233,17 @@ module _ {M : Type 1} {𝓤 : Ura M} (𝓛 : Logic 𝓤) (mem : Memory → SProp
   no_line_only : Only no_line.ended (no_line.clauses 𝓛 mem run) (λ κs. nothing)
   no_line_only κs a g r r' e e' known = only same nothing
 
-  site_put_only : Only site_put.ended (site_put.clauses 𝓛 mem run) (λ κs. nothing)
-  site_put_only κs a g r r' e e' known = only same nothing
+  site_put_only : Only site_put.ended (site_put.clauses 𝓛 mem run) (λ κs e. e.0.now)
+  site_put_only κs a g r r' e e' known = only nothing same
 
-  site_rest_only : Only site_rest.ended (site_rest.clauses 𝓛 mem run) (λ κs. nothing)
-  site_rest_only κs a g r r' e e' known = only same nothing
+  site_rest_only : Only site_rest.ended (site_rest.clauses 𝓛 mem run) (λ κs e. e.0.now)
+  site_rest_only κs a g r r' e e' known = only nothing same
 
-  net_put_only : Only net_put.ended (net_put.clauses 𝓛 mem run) (λ κs. nothing)
-  net_put_only κs a g r r' e e' known = only same nothing
+  net_put_only : Only net_put.ended (net_put.clauses 𝓛 mem run) (λ κs e. e.0.now)
+  net_put_only κs a g r r' e e' known = only nothing same
 
-  net_rest_only : Only net_rest.ended (net_rest.clauses 𝓛 mem run) (λ κs. nothing)
-  net_rest_only κs a g r r' e e' known = only same nothing
+  net_rest_only : Only net_rest.ended (net_rest.clauses 𝓛 mem run) (λ κs e. e.0.now)
+  net_rest_only κs a g r r' e e' known = only nothing same
 
   set_number_only : Only set_number.ended (set_number.clauses 𝓛 mem run) (λ κs. nothing)
   set_number_only κs a g r r' e e' known = only same nothing
@@ -262,11 +272,11 @@ module _ {M : Type 1} {𝓤 : Ura M} (𝓛 : Logic 𝓤) (mem : Memory → SProp
   written_only : Only written.ended (written.clauses 𝓛 mem run) (λ κs. nothing)
   written_only κs a g r r' e e' known = only same nothing
 
-  stall_put_only : Only stall_put.ended (stall_put.clauses 𝓛 mem run) (λ κs. nothing)
-  stall_put_only κs a g r r' e e' known = only same nothing
+  stall_put_only : Only stall_put.ended (stall_put.clauses 𝓛 mem run) (λ κs e. e.0.now)
+  stall_put_only κs a g r r' e e' known = only nothing same
 
-  stall_rest_only : Only stall_rest.ended (stall_rest.clauses 𝓛 mem run) (λ κs. nothing)
-  stall_rest_only κs a g r r' e e' known = only same nothing
+  stall_rest_only : Only stall_rest.ended (stall_rest.clauses 𝓛 mem run) (λ κs e. e.0.now)
+  stall_rest_only κs a g r r' e e' known = only nothing same
 
   stalls_no_tag_only : Only stalls_no_tag.ended (stalls_no_tag.clauses 𝓛 mem run) (λ κs. nothing)
   stalls_no_tag_only κs a g r r' e e' known = only same nothing
@@ -298,8 +308,11 @@ module _ {M : Type 1} {𝓤 : Ura M} (𝓛 : Logic 𝓤) (mem : Memory → SProp
   is_sound_only κs a g r r' e e' known = only same nothing
 
   -- steps
-  step_sound_only : Only step_sound.ended (step_sound.clauses 𝓛 mem run) (λ κs. nothing)
-  step_sound_only κs a g r r' e e' known = only same nothing
+  step_sound_only : Only step_sound.ended (step_sound.clauses 𝓛 mem run) (λ κs e. e.0.now)
+  step_sound_only κs a g r r' e e' known = only (λ (x : After). x.outcome) (λ x. x.system)
+
+  step_on_only : Only step_on.ended (step_on.clauses 𝓛 mem run) (λ κs e. e.0.now)
+  step_on_only κs a g r r' e e' known = only (λ (x : After). x.outcome) (λ x. x.system)
 
   step_only : Only step.ended (step.clauses 𝓛 mem run) (λ κs. nothing)
   step_only κs a g r r' e e' known = only same nothing

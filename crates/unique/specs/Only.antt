@@ -19,3 +19,12 @@ Only {M} {𝓤} T c left =
     ent 𝓤 known ((c κs a).ensures g r e) →
     ent 𝓤 known ((c κs a).ensures g r' e') →
     ent 𝓤 known (fact 𝓤 ((r ≡ r') × (left κs e ≡ left κs e')))
+
+-- The same of a call that gives a reference: what is seen behind it is the same.
+abbrev pub OnlySeen : {M : Type 1} {𝓤 : Ura M} (T : Ended) {Seen Left : Type 0} → Clauses 𝓤 T → ((κs : Lfts T.signature.lifetimes) → Res T.signature κs → Seen) →
+    ((κs : Lfts T.signature.lifetimes) → AtExit T κs → Left) → Type 2
+OnlySeen {M} {𝓤} T c seen left =
+    (κs : Lfts T.signature.lifetimes) (a : Args T.signature κs) (g : (c κs a).ghost) (r r' : Res T.signature κs) (e e' : AtExit T κs) (known : SProp 𝓤) →
+    ent 𝓤 known ((c κs a).ensures g r e) →
+    ent 𝓤 known ((c κs a).ensures g r' e') →
+    ent 𝓤 known (fact 𝓤 ((seen κs r ≡ seen κs r') × (left κs e ≡ left κs e')))

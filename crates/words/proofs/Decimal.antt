@@ -58,8 +58,8 @@ decimal-length (suc g) n h =
     one_or_more n (λ k. omega (arith, ap length (decimal_last n k))) (λ k. omega (arith, length_more n k, decimal-length g (n / 10) (omega arith)))
 
 -- a number of 64 bits
-pub decimal-most : (n : ℕ) → n < 18446744073709551616 → length (decimal n) ≤ 20
-decimal-most n h = decimal-length 19 n (omega arith)
+pub decimal_most : (n : ℕ) → n < 18446744073709551616 → length (decimal n) ≤ 20
+decimal_most n h = decimal-length 19 n (omega arith)
 
 -- WRITING
 

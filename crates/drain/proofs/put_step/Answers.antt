@@ -1,12 +1,12 @@
-use Rattle.drain.proofs.Onward.{has_room, put_past}
+use Rattle.drain.proofs.Onward.{is_written, put_past}
 use Rattle.drain.proofs.put_step.Goals as goal
 
-pub returns-in_default : goal.returns-in_default
-returns-in_default c =
+pub unwrap-requires : goal.unwrap-requires
+unwrap-requires c =
     let pre = c.requires in
-    absurd (has_room c.args.x c.args.buf.now c.args.at pre.0 pre.1 c.write_step-wrote.ensures c.in_default.is)
+    is_written c.args.x c.args.buf.now c.args.at pre.0 pre.1 c.write_step.ensures
 
 pub returns : goal.returns
 returns c =
     let pre = c.requires in
-    put_past c.args.x c.args.buf.now c.args.at pre.0 pre.1 c.write_step-wrote.ensures c.in-Past.is
+    put_past c.args.x c.args.buf.now c.args.at pre.0 pre.1 c.write_step.ensures c.unwrap.ensures

@@ -1,30 +1,33 @@
-use Rattle.replay.proofs.Lists.{sized-all, refused_all, begun_goes, refused_goes}
+use Rattle.std.proofs.Common.{sym, ◌∙◌}
+use Rattle.lists.proofs.Tests.{T_true}
 use Rattle.model.specs.Limits.{in_limits}
 use Rattle.promises.proofs.Readers.{sizes-read}
-use Rattle.lists.proofs.Tests.{T_true}
-use native.Mathlib.Omega.{arith}
-use mathlib.Core.Path.{sym, ◌∙◌}
+use Rattle.replay.proofs.Lists.{is_put, stands, within, first_whole, refused_whole}
 use Rattle.replay.proofs.list_sizes.Goals as goal
 
-pub begin-requires : goal.begin-requires
-begin-requires c =
-    let pre = c.requires in
-    (T_true (in_limits c.in-Sized.z) (sizes-read c.args.bytes.now (sym c.read_sizes-got.ensures ∙ c.in-Sized.is)).limits, pre)
+pub unwrap-requires : goal.unwrap-requires
+unwrap-requires c = is_put _ _ _ _ _ c.put_sizes.ensures.buf_after c.put_sizes.ensures.short c.requires
 
-pub returns-in-Sized : goal.returns-in-Sized
-returns-in-Sized c =
-    let e = sym c.read_sizes-got.ensures ∙ c.in-Sized.is in
+pub first-requires : goal.first-requires
+first-requires c = T_true (in_limits c.in-Ok.z) (sizes-read c.args.bytes.now {past = c.in-Ok.past} (sym c.read_sizes.ensures ∙ c.in-Ok.is)).limits
+
+pub unwrap-requires-in-Err : goal.unwrap-requires-in-Err
+unwrap-requires-in-Err c = is_put _ _ _ _ _ c.put_record.ensures.buf_after c.put_record.ensures.short c.requires
+
+pub returns-in-Ok : goal.returns-in-Ok
+returns-in-Ok c =
     record {
-      whole = sized-all c.args.bytes.now c.begin.new.buf c.begin.result c.in-Sized.z c.in-Sized.past e c.begin.ensures.value c.begin.ensures.first;
-      going = begun_goes c.args.bytes.now c.begin.result c.in-Sized.z c.in-Sized.past e c.begin.ensures.value;
-      within = omega (arith, c.begin.ensures.first.within, c.begin.auto.buf);
+      whole =
+          rw (stands _ _ _ _ _ c.put_sizes.ensures.buf_after c.put_sizes.ensures.short c.requires _ c.unwrap.ensures)
+          (first_whole _ _ _ c.first.result (sym c.read_sizes.ensures ∙ c.in-Ok.is) c.first.ensures.system c.first.ensures.at c.first.ensures.count);
+      within = within _ _ _ _ _ c.put_sizes.ensures.buf_after c.put_sizes.ensures.short c.requires _ c.unwrap.ensures;
     }
 
-pub returns-in-NoSizes : goal.returns-in-NoSizes
-returns-in-NoSizes c =
-    let e = sym c.read_sizes-got.ensures ∙ c.in-NoSizes.is in
+pub returns-in-Err : goal.returns-in-Err
+returns-in-Err c =
     record {
-      whole = refused_all c.args.bytes.now c.refuse.new.buf c.refuse.result c.in-NoSizes.why e c.refuse.ensures.value c.refuse.ensures.first;
-      going = refused_goes c.refuse.result c.refuse.ensures.value;
-      within = omega (arith, c.refuse.ensures.first.within, c.refuse.auto.buf);
+      whole =
+          rw (stands _ _ _ _ _ c.put_record.ensures.buf_after c.put_record.ensures.short c.requires _ c.unwrap-in-Err.ensures)
+          (refused_whole _ _ (sym c.read_sizes.ensures ∙ c.in-Err.is));
+      within = within _ _ _ _ _ c.put_record.ensures.buf_after c.put_record.ensures.short c.requires _ c.unwrap-in-Err.ensures;
     }

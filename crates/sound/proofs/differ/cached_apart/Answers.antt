@@ -1,28 +1,17 @@
-use mathlib.Core.Path.{◌≡◌, sym}
+use mathlib.Core.Path.{ap}
 use mathlib.Core.Bool.{not}
-use native.Mathlib.Omega.{arith}
 use borrow.Author.Rules.{rules}
-use lib.ListN.{length}
-use Rattle.lists.proofs.Long.{length_mapped}
-use Rattle.lists.proofs.Each.{each_none, each_turn}
+use borrow.Author.Tests.{tests}
+use Rattle.std.proofs.lemmas.Iterator.{YieldsList-from_slice}
+use Rattle.std.proofs.lemmas.Iterator.Search.{any_from_yields_List}
 use Rattle.model.specs.declared.Entry.{Entry}
-use Rattle.model.specs.Parts.{past_entry}
 use Rattle.model.specs.Sets.{cached}
 use Rattle.model.specs.Sound.{cached_apart}
+use Rattle.sound.proofs.InUse.{none_whole}
 use Rattle.sound.proofs.differ.cached_apart.Goals as goal
-
-pub loop-i-init : goal.loop-i-init
-loop-i-init c = (search rules, search rules, sym (each_none (λ (e : Entry). not (cached c.args.z c.args.c.sets e.line)) c.args.p.entries))
-
-pub loop-i-preserved : goal.loop-i-preserved
-loop-i-preserved c =
-    let len : length c.args.p.entries ≡ 5 = search (rules, length_mapped) in (
-      search rules,
-      search rules,
-      rw (c.loop-i.invariant.2, c.is_cached-there.ensures)
-          (sym (each_turn (λ (e : Entry). not (cached c.args.z c.args.c.sets e.line)) c.loop-i.i c.args.p.entries past_entry (omega arith))),
-    )
 
 pub returns : goal.returns
 unfolding cached_apart
-returns c = let e : c.loop-i.i ≡ c.args.p.count = omega arith in rw e at c.loop-i.invariant.2
+returns c =
+    rw none_whole
+    (ap not (any_from_yields_List (λ (e : Entry). cached c.args.z.now c.args.sets.now e.line) _ _ _ c.any.ensures.ran (YieldsList-from_slice _ c.iter.ensures.rest) (λ x b q k. search (rules, tests))))

@@ -1,34 +1,20 @@
-use mathlib.Core.Path.{◌≡◌, sym}
-use mathlib.Core.Bool.{Bool, true, false, cond}
-use native.Mathlib.Omega.{arith}
+use mathlib.Core.Path.{◌≡◌, refl}
 use borrow.Author.Rules.{rules}
-use borrow.Author.Tests.{eq-eqb}
-use lib.ListN.{length}
-use Rattle.lists.specs.Places.{all_below}
+use borrow.Author.Tests.{tests, eq-eqb}
+use lib.ListN.{length, get_or}
+use Rattle.std.proofs.lemmas.Iterator.{YieldsList-from_range}
+use Rattle.std.proofs.lemmas.Iterator.Search.{all_from_yields_List}
+use Rattle.lists.proofs.Library.{below_range}
 use Rattle.lists.proofs.Long.{length_mapped}
-use Rattle.lists.proofs.Below.{below_turn}
-use Rattle.model.specs.declared.Cache.{Cache}
-use Rattle.model.specs.declared.Sizes.{Sizes}
+use Rattle.model.specs.Parts.{past_set}
+use Rattle.model.specs.Sets.{set_fits}
 use Rattle.model.specs.Sound.{cache_fits}
-use Rattle.sound.specs.Sites.{cache_free}
-use Rattle.sound.proofs.places.cache_fits.Invariants.{tests}
 use Rattle.sound.proofs.places.cache_fits.Goals as goal
 
--- the sets of a cache of eight
-either : (z : Sizes) (used : Bool) (c : Cache) → length c.sets ≡ 8 → all_below 8 (tests z used c) ≡ cond used (cache_fits z c.sets) (cache_free c.sets)
-unfolding cache_fits
-either z true c e = rw (eq-eqb _ _ e)
-either z false c e = rw (eq-eqb _ _ e)
-
-pub loop-k-init : goal.loop-k-init
-unfolding all_below
-loop-k-init c = search rules
-
-pub loop-k-preserved : goal.loop-k-preserved
-loop-k-preserved c =
-    (search rules, rw (c.loop-k.invariant.1, c.set_place-ok.ensures) (sym (below_turn c.loop-k.k _)))
-
 pub returns : goal.returns
+unfolding cache_fits
 returns c =
-    let k : c.loop-k.k ≡ 8 = omega arith in
-    rw (c.loop-k.invariant.1, k) (either c.args.z c.args.used c.args.c (search (rules, length_mapped)))
+    let sets = c.args.sets.now in
+    let len : length sets ≡ 8 = search (rules, length_mapped) in
+    rw (eq-eqb _ _ len, below_range 8)
+    (all_from_yields_List (λ k. set_fits c.args.z.now k (get_or sets k past_set)) _ _ _ c.all.ensures.ran (YieldsList-from_range 0 8 8 refl refl) (λ x b q k. search (rules, tests)))

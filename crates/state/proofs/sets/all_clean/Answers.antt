@@ -1,22 +1,13 @@
-use mathlib.Core.Path.{◌≡◌, refl}
-use mathlib.Core.List.{[], ◌∷◌}
-use mathlib.Core.Bool.{Bool, true, false, not, ◌&&◌}
+use mathlib.Core.Path.{sym, ◌∙◌}
+use mathlib.Core.Bool.{not}
 use borrow.Author.Rules.{rules}
-use lib.ListN.{length}
-use Rattle.lists.specs.Places.{each}
-use Rattle.lists.proofs.Long.{four}
-use Rattle.model.specs.Handling.{all_clean}
+use borrow.Author.Tests.{tests}
+use Rattle.std.proofs.lemmas.Iterator.{YieldsList-from_slice}
+use Rattle.std.proofs.lemmas.Iterator.Search.{all_from_yields_List}
+use Rattle.lists.proofs.Library.{each_list_all}
 use Rattle.state.proofs.sets.all_clean.Goals as goal
-
-clean-four : (a b c d : Bool) → not a && not b && not c && not d ≡ all_clean (a ∷ b ∷ c ∷ d ∷ [])
-unfolding each
-clean-four true b c d = refl
-clean-four false true c d = refl
-clean-four false false true d = refl
-clean-four false false false true = refl
-clean-four false false false false = refl
 
 pub returns : goal.returns
 returns c =
-    let len : length c.args.marks ≡ 4 = search rules in
-    rw (four c.args.marks false len) (clean-four _ _ _ _)
+    all_from_yields_List not _ _ c.all.result c.all.ensures.ran (YieldsList-from_slice c.args.marks cc) (λ x b q k. search (rules, tests))
+    ∙ sym (each_list_all not c.args.marks)
