@@ -1,5 +1,5 @@
-// What a bench links: the calls of `lent` under their names in C. Each is that call and says what it says, clause for
-// clause; `./mwb pages` holds the heads to those of `lent`.
+// What a bench links: the calls of `lent` under their names in C. Each makes that call and has its
+// contract, clause for clause; `./mwb pages` holds the heads to those of `lent`.
 #![tactic(auto)]
 
 ghost use Rattle.std.specs.Prelude.{◌≡◌};

@@ -7,7 +7,7 @@ use model::Step;
 use std::marker::Model;
 use words::{put_decimal, put_name, put_text};
 
-// No line takes more bytes: with twenty digits for every number that of sizes would take 160.
+// Room for any line. The longest is that of sizes: 160 bytes if each number had twenty digits.
 pub const MOST_LINE: usize = 192;
 
 #[derive(Drop)]

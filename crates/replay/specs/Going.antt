@@ -5,9 +5,9 @@ use Rattle.model.specs.Results.{ReadStep}
 use Rattle.model.specs.Replay.{left_of, record_line, listed_at}
 use Rattle.replay.specs.declared.going.Going.{Going}
 
--- the line behind the last step, where no step was read: what is left, or the fault
+-- the line behind the last step: what is left where the reader gave no fault, or the fault
 unfoldable pub last_line : ReadStep → System → List ℕ
-last_line (Ok step) s = left_of s
+last_line (Ok read) s = left_of s
 last_line (Err why) s = record_line why
 
 -- what is still to be listed

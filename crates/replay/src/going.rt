@@ -11,8 +11,8 @@ ghost use Rattle.steps.specs.After.{after};
 use model::{Outcome, Sizes, Step, System};
 use steps::step_sound;
 
-// The system, which is sound, the offset of the next step, and how many steps were listed: each of them took a byte at
-// least.
+// A sound system, the offset of the next step, and the count of steps listed. The count is never above the offset,
+// since each step took a byte.
 #[derive(Clone, Copy)]
 pub struct Going {
     pub system: System,

@@ -76,7 +76,7 @@ fn read_steps(bytes: &[u8], start: usize, before: Seen) -> Seen {
     }
 }
 
-// Every string of so many bytes, four at most: the first bytes of each number below the count.
+// Every string of a length of at most four bytes: the low bytes of 0, 1, 2 and so on below the count.
 fn every_string(size: usize, count: u32) -> Seen
     requires { size ≤ 4 }
 {

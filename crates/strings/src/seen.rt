@@ -1,8 +1,8 @@
 // What was seen of some strings, and the line that says it.
 use std::fmt;
 
-// How many strings there were, whose sizes are good, that read to the end, the steps read, those written again as they
-// stood, and a sum over everything that the readers gave.
+// Counts: all strings; those with good sizes; those that read to the end; steps read; steps written again as they
+// stood. And a sum over all that the readers gave.
 #[derive(Clone, Copy, Default)]
 pub(crate) struct Seen {
     pub(crate) strings: u64,
