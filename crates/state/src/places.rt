@@ -31,9 +31,11 @@ pub(crate) fn take_out<T: Copy>(places: &mut [T], count: &mut u8, position: usiz
     ensures counted { count.new ≡ count.old - 1 }
 {
     *count = count.saturating_sub(1);
-    if position < places.len() {
-        places[position] = free;
-        places[position..].rotate_left(1);
+    let mut behind = free;
+    for i in (position..places.len()).rev() {
+        let here = places[i];
+        places[i] = behind;
+        behind = here;
     }
 }
 

@@ -1,17 +1,19 @@
-use mathlib.Core.Path.{◌≡◌, ◌∙◌}
-use native.Mathlib.Omega.{arith}
-use borrow.Author.Rules.{rules}
-use lib.ListN.{set, length, length-set}
-use Rattle.std.proofs.lemmas.Slice.{put_mid-rotated}
-use Rattle.lists.proofs.Library.{removed_rotated, removed-past}
+use Rattle.std.proofs.Common.{arith, rules, ◌∙◌}
+use Rattle.std.proofs.lemmas.List.{get_or_past}
+use Rattle.lists.proofs.Library.{removed_turn, removed_down, removed-past}
 use Rattle.state.proofs.places.take_out.Goals as goal
 
-pub returns-then-position-places-clause-closed : goal.returns-then-position-places-clause-closed
-returns-then-position-places-clause-closed g c =
-    let cleared = set c.args.places.now c.args.position c.args.free in
-    let len : length cleared ≡ length c.args.places.now = length-set c.args.places.now c.args.position c.args.free in
-    put_mid-rotated c.args.position _ cleared _ c.args.free (omega arith) (omega arith) c.rotate_left.ensures.after
-    ∙ removed_rotated c.args.free c.args.position c.args.places.now c.args.free c.if-position-places.true
+pub loop-i-init : goal.loop-i-init
+loop-i-init g c = search (rules, removed-past, get_or_past)
 
-pub returns-else-position-places-clause-closed : goal.returns-else-position-places-clause-closed
-returns-else-position-places-clause-closed g c = search (rules, removed-past)
+pub loop-i-preserved : goal.loop-i-preserved
+loop-i-preserved g c =
+    let (places, behind, down) = c.loop-i.invariant in
+    let turn = removed_turn c.args.free c.loop-i.i c.args.places.now c.loop-i.places c.loop-i.behind c.index-places-i.result
+    (omega (arith, c.loop-i-test.true)) c.loop-i.auto.i places behind c.index-places-i.is in
+    (turn.0, turn.1, omega (arith, c.loop-i-test.true))
+
+pub returns-clause-closed : goal.returns-clause-closed
+returns-clause-closed g c =
+    let (places, behind, down) = c.loop-i.invariant in
+    places ∙ removed_down c.args.free c.args.position c.loop-i.i c.args.places.now down (omega (arith, c.loop-i-test.false))
