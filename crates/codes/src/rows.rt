@@ -10,21 +10,24 @@ use model::{Instruction, Step};
 use std::marker::Model;
 
 // Six numbers at most, one behind the other.
-#[derive(Drop)]
+#[derive(Clone, Copy)]
 pub struct Row {
     numbers: [u32; 6],
     count: usize,
 }
 
-// Clauses see the list of those in use.
+// Clauses see the list of those in use; a number that is not there is 0.
 impl Model for Row {
-    ghost use Rattle.std.specs.Prelude.{ℕ, List, take, ◌≤◌};
+    ghost use Rattle.std.specs.Prelude.{ℕ, List, take, length, ◌≤◌, ◌≡◌};
+    ghost use Rattle.codes.specs.Padded.{padded};
 
     ghost Value = { List ℕ };
 
     ghost view = { λ r. take r.count r.numbers };
 
-    ghost invariant = { λ r. r.count ≤ 6 };
+    ghost invariant = { λ r. (r.count ≤ 6) × (r.numbers ≡ padded (take r.count r.numbers)) };
+
+    ghost inverse = { λ ns. record { numbers = padded ns; count = length ns } };
 }
 
 impl Row {
@@ -52,9 +55,7 @@ impl Row {
     pub fn padded(&self) -> [u32; 6]
         ensures { result ≡ padded self.now }
     {
-        let mut all = [0; 6];
-        all[..self.count].copy_from_slice(&self.numbers[..self.count]);
-        all
+        self.numbers
     }
 }
 
