@@ -14,12 +14,19 @@ pub struct Fault {
     pub place: usize,
 }
 
-// The number at an offset of the bytes, for a field of which so much is the most, with the offset past it.
-#[tactic(auto, unfolding(crate::specs::Groups::read_number))]
+// The number at an offset of the bytes, for a field of which so much is the most, with the offset past it. Most have
+// one group and are read at once. The answer for the others is made anew, so that it need not stand in memory.
+#[tactic(auto, using(crate::proofs::Grouped::read_last), unfolding(crate::specs::Groups::read_number))]
 pub fn read_number(bytes: &[u8], at: usize, most: u32) -> Result<(u32, usize), Fault>
     ensures { result ≡ read_number most bytes.now at }
 {
-    read_groups(bytes, at, most, true)
+    match bytes.get(at) {
+        Some(b) if *b < 128 && u32::from(*b) <= most => Ok((u32::from(*b), at + 1)),
+        _ => {
+            let (n, past) = read_groups(bytes, at, most, true)?;
+            Ok((n, past))
+        }
+    }
 }
 
 // The groups at an offset, the first of a number or those above others. How many there may be follows from the most.
