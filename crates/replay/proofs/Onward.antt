@@ -1,12 +1,10 @@
 -- What holds while lines are put: those in the buffer, and those still to come, are what was to be listed.
-use Rattle.std.specs.Result.{result_unwrap_or}
 use Rattle.std.proofs.Common.{◌≡◌, ℕ, suc, ◌+◌, ◌<◌, ◌≤◌, List, [], ◌++◌, Ok, Err, Some, None, refl, length, take, add-one, ap, sym, ◌∙◌}
 use mathlib.Core.List.{append-nil}
-use Rattle.model.specs.declared.Refusal.{Refusal}
 use Rattle.model.specs.declared.Step.{Step}
 use Rattle.model.specs.declared.After.{After}
 use Rattle.model.specs.Record.{read_step}
-use Rattle.model.specs.Replay.{step_line, left_line, left_of, record_line, listed_at}
+use Rattle.model.specs.Replay.{step_line, left_of, record_line, listed_at}
 use Rattle.model.specs.Results.{Outcome, ReadStep, one}
 use Rattle.model.specs.Steps.{step_of, stepped}
 use Rattle.promises.proofs.Public.{stepped-sound}
@@ -31,15 +29,10 @@ step_listed bs g h x next o r e a k =
     rw (a, k, add-one (g.count + 1)) (listed_step bs g.at (g.count + 1) g.system x next r ∙
     ap (λ (t : After). step_line (g.count + 1) x t.outcome ++ listed_at bs next (suc (g.count + 1)) t.system) st)
 
--- a step that was read
-pub some_read : (got : ReadStep) (x : Step) (next : ℕ) → result_unwrap_or got None ≡ Some (x, next) → got ≡ one x next
-some_read (Ok step) x next e = ap Ok e
-some_read (Err why) x next e = cc
-
 -- where none is read: the line behind the last step
-pub last_listed : (bs : List ℕ) (g : Going) (got : ReadStep) → read_step bs g.at ≡ got → result_unwrap_or got None ≡ None →
+pub last_listed : (bs : List ℕ) (g : Going) (got : ReadStep) → read_step bs g.at ≡ got → ((x : Step) (next : ℕ) → got ≡ one x next → ⊥) →
     to_list bs (Some g) ≡ last_line got g.system ++ []
 unfolding last_line
-last_listed bs g (Ok (Some (x, next))) e k = cc
+last_listed bs g (Ok (Some (x, next))) e k = absurd (k x next refl)
 last_listed bs g (Ok None) e k = listed-end bs g.at (g.count + 1) g.system e ∙ sym (append-nil (left_of g.system))
 last_listed bs g (Err why) e k = listed-fault bs g.at (g.count + 1) g.system why e ∙ sym (append-nil (record_line why))

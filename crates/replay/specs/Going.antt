@@ -1,5 +1,5 @@
 -- How far a listing is.
-use Rattle.std.specs.Prelude.{List, [], ◌++◌, ℕ, suc, ◌+◌, ◌-◌, ◌<◌, length, take, Option, Some, None, Ok, Err}
+use Rattle.std.specs.Prelude.{List, [], ◌++◌, ℕ, suc, ◌+◌, ◌-◌, ◌<◌, ◌≤◌, length, take, Option, Some, None, IfSome, Ok, Err}
 use Rattle.model.specs.declared.System.{System}
 use Rattle.model.specs.Results.{ReadStep}
 use Rattle.model.specs.Replay.{left_of, record_line, listed_at}
@@ -24,6 +24,6 @@ abbrev pub parts_left : List ℕ → Option Going → ℕ
 parts_left bs None = 0
 parts_left bs (Some g) = suc (length bs - g.at)
 
--- it went on: the last line was written, or some step's, which took a byte at least
+-- it went on: the last line was put, or some step's, so that the next is read farther on, within the record
 abbrev pub Further : List ℕ → Going → Option Going → Type 0
-Further bs from rest = parts_left bs rest < parts_left bs (Some from)
+Further bs from rest = IfSome rest (λ g. (from.at < g.at) × (g.at ≤ length bs))

@@ -55,15 +55,21 @@ fn list_on(bytes: &[u8], from: Going, buf: &mut [u8]) -> (usize, Option<Going>)
 {
     let mut going = from;
     let mut length = 0;
-    'lines: while length + MOST_LINE <= buf.len() {
+    'lines: loop {
         let got = read_step(bytes, going.at);
-        let Some((x, next)) = got.unwrap_or(None) else {
-            return (put_last(buf, length, got, &going.system).unwrap(), None);
+        let Ok(Some((x, next))) = got else {
+            return match put_last(buf, length, got, &going.system) {
+                Ok(end) => (end, None),
+                Err(_) => (length, Some(going)),
+            };
         };
+        // A step is taken only where its line has room.
+        if buf.len() < length + MOST_LINE {
+            return (length, Some(going));
+        }
         let outcome = going.take(x, next);
         length = put_step(buf, length, going.count, x, outcome).unwrap();
     }
-    (length, Some(going))
 }
 
 fn complain(rt: &impl Eprint) {

@@ -18,16 +18,16 @@ pub returns-in-Ok : goal.returns-in-Ok
 returns-in-Ok c =
     record {
       whole =
-          rw (stands _ _ _ _ _ c.put_sizes.ensures.buf_after c.put_sizes.ensures.short c.requires _ c.unwrap.ensures)
+          rw (stands _ _ _ _ _ c.put_sizes.ensures.buf_after _ c.unwrap.ensures)
           (first_whole _ _ _ c.first.result (sym c.read_sizes.ensures ∙ c.in-Ok.is) c.first.ensures.system c.first.ensures.at c.first.ensures.count);
-      within = within _ _ _ _ _ c.put_sizes.ensures.buf_after c.put_sizes.ensures.short c.requires _ c.unwrap.ensures;
+      within = within _ _ _ _ _ c.put_sizes.ensures.buf_after _ c.unwrap.ensures;
     }
 
 pub returns-in-Err : goal.returns-in-Err
 returns-in-Err c =
     record {
       whole =
-          rw (stands _ _ _ _ _ c.put_record.ensures.buf_after c.put_record.ensures.short c.requires _ c.unwrap-in-Err.ensures)
+          rw (stands _ _ _ _ _ c.put_record.ensures.buf_after _ c.unwrap-in-Err.ensures)
           (refused_whole _ _ (sym c.read_sizes.ensures ∙ c.in-Err.is));
-      within = within _ _ _ _ _ c.put_record.ensures.buf_after c.put_record.ensures.short c.requires _ c.unwrap-in-Err.ensures;
+      within = within _ _ _ _ _ c.put_record.ensures.buf_after _ c.unwrap-in-Err.ensures;
     }
