@@ -1,3 +1,4 @@
 pub mod Visits
 pub mod Carries
+pub mod KindsLeft
 pub mod Again
