@@ -11,7 +11,7 @@ returns-in_default t c =
           c.if-b-lt128.false (omega (arith, c.shared_slice_known-2-1.given c.args.at))
           c.if-most-lt128.false h c.read_groups.ensures,
       c.in_default.is,
-    )
+    ) (grind arith)
 
 pub overflow_mul-n : goal.overflow_mul-n
 overflow_mul-n t c =
