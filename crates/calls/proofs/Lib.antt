@@ -1,4 +1,5 @@
 pub mod Whole
 pub mod Sized
 pub mod Demands
+pub mod Unsound
 pub mod Samples
