@@ -1,4 +1,5 @@
-// The calls of a bench: numbers in, a small struct of numbers out, and a lent system or buffer changed where it stands.
+// The calls of a bench as functions of values: numbers in, a small struct of numbers out, and the system after.
+// A buffer is lent, and one that is written to is changed where it stands.
 #![tactic(auto)]
 
 pub mod reads;
