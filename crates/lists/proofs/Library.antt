@@ -1,9 +1,9 @@
 -- The words of Places beside the library's: a test of the first places of an array, a count, a search, a place taken out, and the numbers below a bound.
 use mathlib.Core.Path.{◌≡◌, refl, ap, ◌∙◌}
-use mathlib.Core.List.{List, [], ◌∷◌}
+use mathlib.Core.List.{List, [], ◌∷◌, ◌++◌}
 use mathlib.Core.Bool.{Bool, true, false, not, ◌&&◌, ◌||◌, cond, and-true, and_assoc}
-use Prim.Native.Nat.{ℕ, zero, suc, ◌+◌, ◌-◌, ◌≤◌, ◌<◌, min}
-use native.Mathlib.Nat.{not-suc-le-zero, le_of_suc-le-suc, zero-min, min-zero, suc-min-suc, zero-add, add-zero, add-suc, suc-add}
+use Prim.Native.Nat.{ℕ, zero, suc, ◌+◌, ◌≤◌, min}
+use native.Mathlib.Nat.{not-suc-le-zero, le_of_suc-le-suc, suc_inj, zero-min, min-zero, suc-min-suc, zero-add, add-zero, add-suc, suc-add}
 use native.Mathlib.Numerals.{add-one}
 use native.Mathlib.Omega.{arith}
 use borrow.Author.Tests.{le-leb}
@@ -113,28 +113,17 @@ module _ {A : Type 0} where
 
   -- A PLACE TAKEN OUT
 
-  -- what stands behind a place moves to it, from the last place down
-  moved : (z : A) (i : ℕ) (xs : List A) → i < length xs → set (removed z (suc i) xs) i (get_or xs (suc i) z) ≡ removed z i xs
+  -- the zero is put last, and what stood behind the place is copied to it
+  pub removed_copied : (z : A) (p n : ℕ) (xs : List A) → p ≤ n → length xs ≡ suc n →
+      take p (set xs n z) ++ (drop (suc p) xs ++ drop n (set xs n z)) ≡ removed z p xs
   unfolding removed
-  moved z i [] h = absurd (not-suc-le-zero h)
-  moved z zero (x ∷ []) h = refl
-  moved z zero (x ∷ y ∷ xs) h = refl
-  moved z (suc i) (x ∷ xs) h = ap (λ (ys : List A). x ∷ ys) (moved z i xs (le_of_suc-le-suc h))
-
-  -- before that place nothing has moved yet
-  unmoved : (z d : A) (i : ℕ) (xs : List A) → i < length xs → get_or (removed z (suc i) xs) i d ≡ get_or xs i z
-  unfolding removed
-  unmoved z d i [] h = absurd (not-suc-le-zero h)
-  unmoved z d zero (x ∷ xs) h = refl
-  unmoved z d (suc i) (x ∷ xs) h = unmoved z d i xs (le_of_suc-le-suc h)
-
-  -- a turn of the loop that takes one out: the place before is filled, and what stood there is in hand
-  pub removed_turn : (z : A) (i : ℕ) (xs places : List A) (behind here : A) → 0 < i → i ≤ length xs → places ≡ removed z i xs → behind ≡ get_or xs i z →
-      here ≡ get_or places (i - 1) here → (set places (i - 1) behind ≡ removed z (i - 1) xs) × (here ≡ get_or xs (i - 1) z)
-  removed_turn z zero xs places behind here o h p b e = absurd (not-suc-le-zero o)
-  removed_turn z (suc i) xs places behind here o h p b e =
-      let one : suc i - 1 ≡ i = omega arith in
-      (rw (one, p, b) (moved z i xs h), rw one (rw (one, p) at e ∙ unmoved z here i xs h))
+  removed_copied z p n [] h l = absurd (omega (arith, l))
+  removed_copied z zero zero (x ∷ []) h l = refl
+  removed_copied z zero zero (x ∷ y ∷ xs) h l = absurd (omega (arith, l))
+  removed_copied z zero (suc n) (x ∷ []) h l = absurd (omega (arith, l))
+  removed_copied z zero (suc n) (x ∷ y ∷ xs) h l = ap (λ (ys : List A). y ∷ ys) (removed_copied z zero n (y ∷ xs) (omega arith) (suc_inj l))
+  removed_copied z (suc p) zero (x ∷ xs) h l = absurd (not-suc-le-zero h)
+  removed_copied z (suc p) (suc n) (x ∷ xs) h l = ap (λ (ys : List A). x ∷ ys) (removed_copied z p n xs (le_of_suc-le-suc h) (suc_inj l))
 
   -- past the end nothing is taken out
   pub removed-past : (z : A) (p : ℕ) (xs : List A) → length xs ≤ p → removed z p xs ≡ xs
@@ -142,15 +131,6 @@ module _ {A : Type 0} where
   removed-past z p [] h = refl
   removed-past z zero (x ∷ xs) h = absurd (not-suc-le-zero h)
   removed-past z (suc p) (x ∷ xs) h = ap (λ (ys : List A). x ∷ ys) (removed-past z p xs (le_of_suc-le-suc h))
-
-  -- down to the position, or to the end where that comes first
-  pub removed_down : (z : A) (p i : ℕ) (xs : List A) → min p (length xs) ≤ i → i ≤ p → removed z i xs ≡ removed z p xs
-  unfolding removed
-  removed_down z p i [] m n = refl
-  removed_down z zero zero (x ∷ xs) m n = refl
-  removed_down z zero (suc i) (x ∷ xs) m n = absurd (not-suc-le-zero n)
-  removed_down z (suc p) zero (x ∷ xs) m n = absurd (omega (arith, m))
-  removed_down z (suc p) (suc i) (x ∷ xs) m n = ap (λ (ys : List A). x ∷ ys) (removed_down z p i xs (omega (arith, m)) (le_of_suc-le-suc n))
 
   -- NUMBERS BELOW A BOUND
 

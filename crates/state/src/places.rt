@@ -25,17 +25,24 @@ pub(crate) fn replace<T: Copy>(places: &mut [T], position: usize, new: T)
     }
 }
 
-// The one at the position leaves, those behind it close the gap, and the last place is free.
-pub(crate) fn take_out<T: Copy>(places: &mut [T], count: &mut u8, position: usize, free: T)
+// The one at the position leaves, those behind it close the gap, and the last place is free. They are taken from a
+// copy, since to move them within the array the archive for C would need `memmove`.
+pub(crate) fn take_out<T: Copy, const N: usize>(
+    places: &mut [T; N],
+    count: &mut u8,
+    position: usize,
+    free: T,
+)
     ensures closed { places.new ≡ removed free position places.old }
     ensures counted { count.new ≡ count.old - 1 }
 {
     *count = count.saturating_sub(1);
-    let mut behind = free;
-    for i in (position..places.len()).rev() {
-        let here = places[i];
-        places[i] = behind;
-        behind = here;
+    if position < N {
+        let old = *places;
+        let (new, old) = (&mut places[..], &old[..]);
+        // Before the copy: behind it a compiler would see that the array still holds what is copied, and move it there.
+        new[N - 1] = free;
+        new[position..N - 1].copy_from_slice(&old[position + 1..]);
     }
 }
 

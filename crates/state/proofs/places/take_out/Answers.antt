@@ -1,19 +1,21 @@
-use Rattle.std.proofs.Common.{arith, rules, ◌∙◌}
-use Rattle.std.proofs.lemmas.List.{get_or_past}
-use Rattle.lists.proofs.Library.{removed_turn, removed_down, removed-past}
+use Rattle.std.proofs.Common.{◌≡◌, ◌+◌, ◌-◌, ◌++◌, suc, arith, take, drop, length-drop, ap, sym, ◌∙◌, add-one}
+use lib.ListN.{set}
+use lib.Seq.{take_all, drop-drop}
+use Rattle.lists.proofs.Library.{removed_copied, removed-past}
 use Rattle.state.proofs.places.take_out.Goals as goal
 
-pub loop-i-init : goal.loop-i-init
-loop-i-init g c = search (rules, removed-past, get_or_past)
+pub returns-then-position-clause-closed : goal.returns-then-position-clause-closed
+returns-then-position-clause-closed g c =
+    let old = c.args.places.now in
+    let p = c.args.position in
+    let last = g.row.N - 1 in
+    let cleared = set old last c.args.free in
+    let behind : c.copy_from_slice.new.self ≡ drop (suc p) old =
+    c.copy_from_slice.ensures.after ∙ take_all _ (drop (p + 1) old) (omega (arith, length-drop (p + 1) old)) ∙ ap (λ k. drop k old) (add-one p) in
+    let rest : drop (last - p) (drop p cleared) ≡ drop last cleared = drop-drop (last - p) p cleared ∙ ap (λ k. drop k cleared) (omega (arith, c.if-position.true)) in
+    ap (λ l. take p cleared ++ (l ++ drop (last - p) (drop p cleared))) behind
+    ∙ ap (λ l. take p cleared ++ (drop (suc p) old ++ l)) rest
+    ∙ removed_copied c.args.free p last old (omega (arith, c.if-position.true)) (omega (arith, c.if-position.true, c.told-places))
 
-pub loop-i-preserved : goal.loop-i-preserved
-loop-i-preserved g c =
-    let (places, behind, down) = c.loop-i.invariant in
-    let turn = removed_turn c.args.free c.loop-i.i c.args.places.now c.loop-i.places c.loop-i.behind c.index-places-i.result
-    (omega (arith, c.loop-i-test.true)) c.loop-i.auto.i places behind c.index-places-i.is in
-    (turn.0, turn.1, omega (arith, c.loop-i-test.true))
-
-pub returns-clause-closed : goal.returns-clause-closed
-returns-clause-closed g c =
-    let (places, behind, down) = c.loop-i.invariant in
-    places ∙ removed_down c.args.free c.args.position c.loop-i.i c.args.places.now down (omega (arith, c.loop-i-test.false))
+pub returns-else-position-clause-closed : goal.returns-else-position-clause-closed
+returns-else-position-clause-closed g c = sym (removed-past c.args.free c.args.position c.args.places.now (omega (arith, c.if-position.false, c.told-places)))
