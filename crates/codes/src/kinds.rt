@@ -1,7 +1,7 @@
 // Numbers as steps and instructions.
 #![tactic(auto, unfolding(model::specs::Record::move_of, model::specs::Record::instruction_of, crate::specs::Named::named_by))]
 
-ghost use Rattle.std.specs.Prelude.{◌≡◌};
+ghost use Rattle.std.specs.Prelude.{◌≡◌, cond, eqb, ◌||◌};
 ghost use Rattle.model.specs.Record.{instruction_of, move_of};
 ghost use Rattle.codes.specs.Named.{named_by};
 
@@ -12,11 +12,21 @@ pub fn move_of(kind: u32, field: u32) -> Step
     ensures { result ≡ move_of kind field }
 {
     match kind {
+        4 => Step::Serve,
+        5 => Step::SendBack,
+        _ => move_with_field(kind, field),
+    }
+}
+
+// The step of a number that has a site or position; any other number is as good as 7 here. It stands apart from 4 and 5
+// so that the compiler tells its steps from each other without a jump, which a processor guesses wrong.
+pub fn move_with_field(kind: u32, field: u32) -> Step
+    ensures { result ≡ move_of (cond (eqb kind 4 || eqb kind 5) 7 kind) field }
+{
+    match kind {
         1 => Step::Retry(field),
         2 => Step::Send(field),
         3 => Step::ArriveMemory(field),
-        4 => Step::Serve,
-        5 => Step::SendBack,
         6 => Step::ArriveSite(field),
         _ => Step::Take(field),
     }

@@ -1,7 +1,7 @@
 // Steps as the numbers of a record.
 #![tactic(auto, unfolding(model::specs::Record::numbers_of, model::specs::Record::operands, model::specs::Issue::kind_of))]
 
-ghost use Rattle.std.specs.Prelude.{◌≡◌, ◌≤◌, length};
+ghost use Rattle.std.specs.Prelude.{◌≡◌, ◌≤◌, get_or, length};
 ghost use Rattle.model.specs.declared.Step.TheVariants.{Issue};
 ghost use Rattle.model.specs.Record.{numbers_of};
 ghost use Rattle.codes.specs.Padded.{padded};
@@ -69,13 +69,28 @@ pub fn numbers_of(x: Step) -> Row
             tag,
             instruction,
         } => issue_row(site, tag, instruction),
-        Step::Retry(site) => Row::of([1, site]),
-        Step::Send(site) => Row::of([2, site]),
-        Step::ArriveMemory(position) => Row::of([3, position]),
-        Step::Serve => Row::of([4]),
-        Step::SendBack => Row::of([5]),
-        Step::ArriveSite(position) => Row::of([6, position]),
-        Step::Take(site) => Row::of([7, site]),
+        Step::Serve | Step::SendBack => Row::of([own_number(x)]),
+        Step::Retry(field)
+        | Step::Send(field)
+        | Step::ArriveMemory(field)
+        | Step::ArriveSite(field)
+        | Step::Take(field) => Row::of([own_number(x), field]),
+    }
+}
+
+// The step's own number, which comes before its fields.
+fn own_number(x: Step) -> u32
+    ensures { result ≡ get_or (numbers_of x) 0 0 }
+{
+    match x {
+        Step::Issue { .. } => 0,
+        Step::Retry(_) => 1,
+        Step::Send(_) => 2,
+        Step::ArriveMemory(_) => 3,
+        Step::Serve => 4,
+        Step::SendBack => 5,
+        Step::ArriveSite(_) => 6,
+        Step::Take(_) => 7,
     }
 }
 

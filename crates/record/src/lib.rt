@@ -10,7 +10,7 @@ pub mod whole;
 
 use crate::issues::read_issue;
 use crate::rows::{read_row, write_row};
-use codes::kinds::move_of;
+use codes::kinds::{move_of, move_with_field};
 use codes::rows::numbers_of;
 use codes::sizes::{sizes_of, sizes_row};
 use model::{MOST_BYTES, ReadSizes, ReadStep, Refusal, Sizes, Step, Wrote};
@@ -70,7 +70,7 @@ fn read_move(bytes: &[u8], kind: u32, at: usize) -> ReadStep
         return Ok(Some((move_of(kind, 0), at)));
     }
     let (field, next) = read_number(bytes, at, MOST_NUMBER)?;
-    Ok(Some((move_of(kind, field), next)))
+    Ok(Some((move_with_field(kind, field), next)))
 }
 
 // Writes the sizes at the start of a buffer. 12 comes before 11 (Numbers 16); sizes within their limits are never too

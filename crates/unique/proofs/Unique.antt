@@ -27,6 +27,7 @@ use Rattle.model.specs.contracts.Waiting.none as waiting_none
 use Rattle.model.specs.contracts.Place.none as place_none
 use Rattle.model.specs.contracts.System.fresh as system_fresh
 use Rattle.codes.specs.contracts.kinds.move_of as move_of
+use Rattle.codes.specs.contracts.kinds.move_with_field as move_with_field
 use Rattle.codes.specs.contracts.kinds.instruction_of as instruction_of
 use Rattle.codes.specs.contracts.kinds.step_of as step_of
 use Rattle.codes.specs.contracts.refusals.number as number
@@ -164,6 +165,9 @@ module _ {M : Type 1} {𝓤 : Ura M} (𝓛 : Logic 𝓤) (mem : Memory → SProp
   -- codes
   move_of_only : Only move_of.ended (move_of.clauses 𝓛 mem run) (λ κs. nothing)
   move_of_only κs a g r r' e e' known = only same nothing
+
+  move_with_field_only : Only move_with_field.ended (move_with_field.clauses 𝓛 mem run) (λ κs. nothing)
+  move_with_field_only κs a g r r' e e' known = only same nothing
 
   instruction_of_only : Only instruction_of.ended (instruction_of.clauses 𝓛 mem run) (λ κs. nothing)
   instruction_of_only κs a g r r' e e' known = only same nothing
