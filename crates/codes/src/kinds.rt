@@ -18,8 +18,8 @@ pub fn move_of(kind: u32, field: u32) -> Step
     }
 }
 
-// The step of a number that has a site or position; any other number is as good as 7 here. It stands apart from 4 and 5
-// so that the compiler tells its steps from each other without a jump, which a processor guesses wrong.
+// The step of a number whose step has a site or position; any other number counts as 7, which is a take. It is apart
+// from move_of for speed: without 4 and 5 among them these steps need no indirect jump.
 pub fn move_with_field(kind: u32, field: u32) -> Step
     ensures { result ≡ move_of (cond (eqb kind 4 || eqb kind 5) 7 kind) field }
 {

@@ -69,17 +69,17 @@ pub fn numbers_of(x: Step) -> Row
             tag,
             instruction,
         } => issue_row(site, tag, instruction),
-        Step::Serve | Step::SendBack => Row::of([own_number(x)]),
+        Step::Serve | Step::SendBack => Row::of([step_number(x)]),
         Step::Retry(field)
         | Step::Send(field)
         | Step::ArriveMemory(field)
         | Step::ArriveSite(field)
-        | Step::Take(field) => Row::of([own_number(x), field]),
+        | Step::Take(field) => Row::of([step_number(x), field]),
     }
 }
 
-// The step's own number, which comes before its fields.
-fn own_number(x: Step) -> u32
+// The number of a step, which stands before its fields.
+fn step_number(x: Step) -> u32
     ensures { result ≡ get_or (numbers_of x) 0 0 }
 {
     match x {
